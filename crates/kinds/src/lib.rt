@@ -1,0 +1,78 @@
+// The kinds of number: a state's number, a value's number, and a mask of values.
+ghost use mathlib.Core.Path.{_≡_};
+ghost use mathlib.Core.Bool.{_&&_, _||_};
+ghost use lib.Dec.{eqb, ltb};
+ghost use Rattle.kinds.specs.Bits.{width, bit, maskOf, smallestOf};
+
+// A state and a value are two kinds, so that one can't index where the other is meant.
+pub struct State(pub u8);
+
+pub struct Value(pub u8);
+
+// A place's choices: value v is bit v.
+pub struct Mask(pub u16);
+
+impl Mask {
+    // As many values as a mask has room for.
+    pub const WIDTH: u8 = 16;
+
+    // A choice of nothing.
+    pub const EMPTY: Mask = Mask(0);
+
+    // A choice of everything, where there are `count` values.
+    pub fn full(count: u8) -> Mask
+        ensures { λ r. ⌜ r .0 ≡ maskOf (λ u. ltb u count) width ⌝ }
+    {
+        if Mask::WIDTH <= count {
+            return Mask(u16::MAX);
+        }
+        Mask((1u16 << count) - 1)
+    }
+
+    // A choice of one value; of nothing, where the mask has no room for it.
+    pub fn single(v: Value) -> Mask
+        ensures { λ r. ⌜ r .0 ≡ maskOf (λ u. eqb u (v .0)) width ⌝ }
+    {
+        Mask::EMPTY.put(v)
+    }
+
+    pub fn has(self, v: Value) -> bool
+        ensures { λ r. ⌜ r ≡ bit (self .0) (v .0) ⌝ }
+    {
+        if Mask::WIDTH <= v.0 {
+            return false;
+        }
+        (self.0 >> v.0) & 1 == 1
+    }
+
+    // The values of both.
+    pub fn meet(self, other: Mask) -> Mask
+        ensures { λ r. ⌜ r .0 ≡ maskOf (λ u. bit (self .0) u && bit (other .0) u) width ⌝ }
+    {
+        Mask(self.0 & other.0)
+    }
+
+    // One value more; the same, where the mask has no room for it.
+    pub fn put(self, v: Value) -> Mask
+        ensures { λ r. ⌜ r .0 ≡ maskOf (λ u. bit (self .0) u || eqb u (v .0)) width ⌝ }
+    {
+        if Mask::WIDTH <= v.0 {
+            return self;
+        }
+        Mask(self.0 | (1u16 << v.0))
+    }
+
+    // The smallest value; the width, where there is none.
+    pub fn smallest(self) -> Value
+        ensures { λ r. ⌜ r .0 ≡ smallestOf (self .0) ⌝ }
+    {
+        let mut v: u8 = 0;
+        while v < Mask::WIDTH {
+            if self.has(Value(v)) {
+                return Value(v);
+            }
+            v += 1;
+        }
+        Value(Mask::WIDTH)
+    }
+}

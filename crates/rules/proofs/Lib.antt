@@ -1,0 +1,9 @@
+pub mod Lists
+pub mod Members
+pub mod Order
+pub mod Kept
+pub mod Narrow
+pub mod Decisions
+pub mod Checks
+pub mod Walk
+pub mod Unique

@@ -1,0 +1,56 @@
+// The rule tables: the check of answer 3.
+ghost use mathlib.Core.Path.{_≡_};
+ghost use mathlib.Core.Bool.{Bool};
+ghost use Prim.Native.Nat.{ℕ, _*_, _^_, _≤_, _<_};
+ghost use lib.ListN.{length};
+ghost use lib.Dec.{ltb};
+ghost use Rattle.rules.specs.Bounds.{mostStates, mostValues, tableSize};
+ghost use Rattle.rules.specs.Checks.{arcRight, tablesRight};
+use crate::bounds;
+
+// Whether one arc is lawful: missing at no cost, or to a state at a cost in range.
+pub(crate) fn arc_right(states: usize, target: u8, cost: u16) -> bool
+    requires { ⌜ states ≤ mostStates ⌝ }
+    ensures { λ r. ⌜ r ≡ arcRight states target cost ⌝ }
+{
+    if target == bounds::NO_TARGET {
+        return cost == 0;
+    }
+    if (target as usize) < states {
+        return cost <= bounds::MOST_COST;
+    }
+    false
+}
+
+// Whether no accepting bit stands at or above the number of states.
+pub(crate) fn accepting_right(states: usize, accepting: u64) -> bool
+    requires { ⌜ states ≤ mostStates ⌝ }
+    ensures { λ r. ⌜ r ≡ ltb accepting (2 ^ states) ⌝ }
+{
+    if states == bounds::MOST_STATES {
+        return true;
+    }
+    accepting >> states == 0
+}
+
+// Whether the first Q × V places of the tables and the accepting mask are lawful.
+pub(crate) fn tables_right(
+    states: usize,
+    values: usize,
+    targets: &[u8],
+    costs: &[u16],
+    accepting: u64,
+) -> bool
+    requires { ⌜ (states ≤ mostStates) × (values ≤ mostValues) × (length (now targets) ≡ tableSize) × (length (now costs) ≡ tableSize) ⌝ }
+    ensures { λ r. ⌜ r ≡ tablesRight states values (now (targets .entry)) (now (costs .entry)) accepting ⌝ }
+{
+    let count = states * values;
+    let mut k: usize = 0;
+    while k < count {
+        if !arc_right(states, targets[k], costs[k]) {
+            return false;
+        }
+        k += 1;
+    }
+    accepting_right(states, accepting)
+}
