@@ -25,6 +25,10 @@ and-fails a b h = rw h
 pub and-goes : (a b c : Bool) → a ≡ true → b ≡ c → (a && b) ≡ c
 and-goes a b c h e = rw h e
 
+-- nothing follows from two numbers that differ but everything
+pub never : {A : Type 0} → _≡_ {A = ℕ} 0 1 → A
+never e = absurd (omega arith)
+
 pub not-so : (b : Bool) → (b ≡ true → ⊥) → b ≡ false
 not-so true h = absurd (h refl)
 not-so false h = refl

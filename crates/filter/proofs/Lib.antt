@@ -1,0 +1,4 @@
+pub mod Both
+pub mod Answering
+pub mod Narrowing
+pub mod Unique

@@ -1,0 +1,3 @@
+pub mod Filter
+pub mod First
+pub mod Inner

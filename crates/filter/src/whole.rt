@@ -1,0 +1,207 @@
+// The two passes together, from any state and with any cost spent.
+ghost use mathlib.Core.Path.{_≡_};
+ghost use Prim.Native.Nat.{_≤_, _<_};
+ghost use lib.ListN.{length};
+ghost use Rattle.rules.specs.Bounds.{mostStates, mostValues, tableSize, top};
+ghost use Rattle.rules.specs.Meaning.{rulesOf, places, rosters};
+ghost use Rattle.rooms.specs.Tables.{Ready};
+ghost use Rattle.filter.specs.Inner.{Filters, Finds};
+use crate::alone;
+use kinds::State;
+use kinds::Value;
+use reach::forward;
+use reach::walk;
+use rooms::backward;
+use rooms::rows;
+use rooms::turn;
+use rules::bounds;
+
+// As many numbers as a target byte can name.
+pub(crate) const BYTES: usize = 256;
+
+// The filter, with room for what it works out on the way.
+pub(crate) fn filter_in(
+    states: usize,
+    values: usize,
+    targets: &[u8],
+    costs: &[u16],
+    accepting: u64,
+    start: State,
+    spent: u32,
+    masks: &[u16],
+    limits: &[u32],
+    kept: &mut [u16],
+    work: &mut [u32],
+    to: &mut [u8],
+    fee: &mut [u16],
+    next: &mut [u32],
+    front: &mut [u32],
+    onward: &mut [u32],
+    hints: &mut [u8],
+) -> u32
+    requires { ⌜ Ready states values (now targets) (now costs) (now masks) (now limits) (now work) × (start .0 < states) × (spent ≤ top) × (length (now kept) ≡ length (now masks)) × (length (now to) ≡ tableSize) × (length (now fee) ≡ tableSize) × (length (now next) ≡ 256) × (length (now front) ≡ mostStates) × (length (now onward) ≡ 256) × (length (now hints) ≡ mostValues) ⌝ }
+    ensures { λ r. ⌜ Filters (rulesOf states values (now (targets .entry)) (now (costs .entry)) accepting) (start .0) spent (places (now (masks .entry)) (now (limits .entry))) (now (work .entry)) (now (work .exit)) (now (kept .exit)) r ⌝ }
+{
+    turn::turn(states, values, targets, costs, to, fee);
+    rows::blank(BYTES, 0, next);
+    backward::fill_rooms(
+        states,
+        values,
+        to,
+        fee,
+        accepting,
+        masks,
+        limits,
+        next,
+        work,
+    );
+    let least = forward::pass(
+        states,
+        values,
+        to,
+        fee,
+        start,
+        spent,
+        masks,
+        work,
+        front,
+        next,
+        onward,
+        hints,
+        kept,
+    );
+    rows::clear(work);
+    least
+}
+
+// The filter of a rule set that was found in order: the least cost, one more than the top where no roster is allowed.
+pub(crate) fn filter_from(
+    states: usize,
+    values: usize,
+    targets: &[u8],
+    costs: &[u16],
+    accepting: u64,
+    start: State,
+    spent: u32,
+    masks: &[u16],
+    limits: &[u32],
+    kept: &mut [u16],
+    work: &mut [u32],
+) -> u32
+    requires { ⌜ Ready states values (now targets) (now costs) (now masks) (now limits) (now work) × (start .0 < states) × (spent ≤ top) × (length (now kept) ≡ length (now masks)) ⌝ }
+    ensures { λ r. ⌜ Filters (rulesOf states values (now (targets .entry)) (now (costs .entry)) accepting) (start .0) spent (places (now (masks .entry)) (now (limits .entry))) (now (work .entry)) (now (work .exit)) (now (kept .exit)) r ⌝ }
+{
+    let mut to = [0u8; bounds::TABLE_SIZE];
+    let mut fee = [0u16; bounds::TABLE_SIZE];
+    let mut next = [0u32; BYTES];
+    let mut front = [0u32; bounds::MOST_STATES];
+    let mut onward = [0u32; BYTES];
+    let mut hints = [0u8; bounds::MOST_VALUES];
+    filter_in(
+        states,
+        values,
+        targets,
+        costs,
+        accepting,
+        start,
+        spent,
+        masks,
+        limits,
+        kept,
+        work,
+        &mut to,
+        &mut fee,
+        &mut next,
+        &mut front,
+        &mut onward,
+        &mut hints,
+    )
+}
+
+// The first roster, with room for what it works out on the way; says whether there is one.
+pub(crate) fn first_in(
+    states: usize,
+    values: usize,
+    targets: &[u8],
+    costs: &[u16],
+    accepting: u64,
+    start: State,
+    spent: u32,
+    masks: &[u16],
+    limits: &[u32],
+    place: usize,
+    value: Value,
+    roster: &mut [u8],
+    work: &mut [u32],
+    own: &mut [u16],
+    to: &mut [u8],
+    fee: &mut [u16],
+    next: &mut [u32],
+) -> bool
+    requires { ⌜ Ready states values (now targets) (now costs) (now masks) (now limits) (now work) × (start .0 < states) × (spent ≤ top) × (length (now roster) ≡ length (now masks)) × (place < length (now masks)) × (length (now own) ≡ length (now masks)) × (length (now to) ≡ tableSize) × (length (now fee) ≡ tableSize) × (length (now next) ≡ 256) ⌝ }
+    ensures { λ r. ⌜ Finds (rosters (rulesOf states values (now (targets .entry)) (now (costs .entry)) accepting) (start .0) spent (places (now (masks .entry)) (now (limits .entry)))) place (value .0) (now (roster .entry)) (now (roster .exit)) (now (work .entry)) (now (work .exit)) r ⌝ }
+{
+    alone::narrow(masks, place, value, own);
+    turn::turn(states, values, targets, costs, to, fee);
+    rows::blank(BYTES, 0, next);
+    backward::fill_rooms(states, values, to, fee, accepting, own, limits, next, work);
+    let found = walk::walk(
+        states,
+        values,
+        to,
+        fee,
+        start,
+        spent,
+        own,
+        work,
+        next,
+        roster,
+    );
+    rows::clear(work);
+    found
+}
+
+// The first roster of a rule set that was found in order.
+pub(crate) fn first_from(
+    states: usize,
+    values: usize,
+    targets: &[u8],
+    costs: &[u16],
+    accepting: u64,
+    start: State,
+    spent: u32,
+    masks: &[u16],
+    limits: &[u32],
+    place: usize,
+    value: Value,
+    roster: &mut [u8],
+    work: &mut [u32],
+) -> bool
+    requires { ⌜ Ready states values (now targets) (now costs) (now masks) (now limits) (now work) × (start .0 < states) × (spent ≤ top) × (length (now roster) ≡ length (now masks)) × (place < length (now masks)) ⌝ }
+    ensures { λ r. ⌜ Finds (rosters (rulesOf states values (now (targets .entry)) (now (costs .entry)) accepting) (start .0) spent (places (now (masks .entry)) (now (limits .entry)))) place (value .0) (now (roster .entry)) (now (roster .exit)) (now (work .entry)) (now (work .exit)) r ⌝ }
+{
+    let count = masks.len();
+    let mut own = [0u16; bounds::MOST_PLACES];
+    let mut to = [0u8; bounds::TABLE_SIZE];
+    let mut fee = [0u16; bounds::TABLE_SIZE];
+    let mut next = [0u32; BYTES];
+    first_in(
+        states,
+        values,
+        targets,
+        costs,
+        accepting,
+        start,
+        spent,
+        masks,
+        limits,
+        place,
+        value,
+        roster,
+        work,
+        &mut own[..count],
+        &mut to,
+        &mut fee,
+        &mut next,
+    )
+}

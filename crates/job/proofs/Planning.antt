@@ -1,0 +1,140 @@
+-- A job carried out: what its lines leave in masks and limits, and what is printed then. Assumes nothing.
+use mathlib.Core.Path.{_≡_, refl, ap, sym, _∙_, subst}
+use mathlib.Core.Bool.{Bool, true}
+use mathlib.Core.List.{List, [], _∷_}
+use Prim.Native.Nat.{ℕ, zero, suc, _-_, _^_, _≤_}
+use native.Mathlib.Omega.{arith}
+use lib.ListN.{length, take, drop, replicate, length-replicate}
+use lib.Seq.{length-take-le}
+use lib.Pow.{pow-pos}
+use borrow.Author.Tests.{lt-ltb}
+use Rattle.rules.specs.Bounds.{workSize, top}
+use Rattle.rules.specs.Lists.{all}
+use Rattle.rules.specs.Checks.{sizeRight, sizesRight, rulesRight, masksRight}
+use Rattle.rules.specs.Meaning.{Rules, places, decides, told}
+use Rattle.rules.proofs.Checks.{both, Size, size-of, sizes-last}
+use Rattle.text.specs.Numbers.{readNumber}
+use Rattle.text.specs.Lines.{right, wrong, strip, onStrip, lines}
+use Rattle.text.specs.declared.lines.Fault.the-variants.{Form}
+use Rattle.text.proofs.Decimals.{number-read}
+use Rattle.text.proofs.Judging.{onStrip-right, onField-right, close-right}
+use Rattle.text.specs.declared.lines.Fault.{Fault}
+use Rattle.text.specs.Inner.{LineAt}
+use Rattle.job.specs.Input.{mostDays, mostLines, daysWord, readDays, Job, days, wrongLine, readDecisions, readJob}
+use Rattle.job.specs.Output.{jobLine, toldText}
+use Rattle.job.specs.Job.{doneText}
+use Rattle.job.specs.Inner.{daysView, Took}
+use Rattle.job.specs.declared.asks.Days.{Days}
+use Rattle.job.specs.declared.asks.Days.the-variants as the-days
+use Rattle.job.specs.declared.take.Taken.{Taken}
+use Rattle.job.specs.declared.take.Taken.the-variants as the-taken
+use Rattle.job.proofs.Showing.{choiceRight, choices-right, decides-right}
+
+-- the size of a rule set that is right
+pub right-size : (q v s : ℕ) (t c : List ℕ) (a : ℕ) → rulesRight q v s t c a ≡ true → Size q v s
+unfolding rulesRight
+right-size q v s t c a h = size-of q v s (both (sizeRight q v s) _ h .0)
+
+pub right-sizes : (n q v s : ℕ) (t c : List ℕ) (a : ℕ) → 1 ≤ n → n ≤ mostDays → rulesRight q v s t c a ≡ true → sizesRight n q v s ≡ true
+unfolding rulesRight
+right-sizes n q v s t c a h k e = sym (sizes-last n q v s h (omega arith)) ∙ both (sizeRight q v s) _ e .0
+
+pub length-of : (n x : ℕ) (xs : List ℕ) → xs ≡ replicate n x → length xs ≡ n
+length-of n x xs e = ap length e ∙ length-replicate n x
+
+-- full masks are right
+full-right : (v n : ℕ) → masksRight v (replicate n (2 ^ v - 1)) ≡ true
+unfolding masksRight
+full-right v zero = refl
+full-right v (suc n) = rw (lt-ltb (2 ^ v - 1) (2 ^ v) (omega (arith, pow-pos v))) (full-right v n)
+
+module _ (r : Rules) (s n : ℕ) (L : List (List ℕ)) (ms ls ms2 ls2 : List ℕ) (t : Taken) (full : ms ≡ replicate n (2 ^ r .arcs .values - 1)) (tops : ls ≡ replicate n top)
+    (k : Took (readDecisions (length ms) (r .arcs .values) 2 mostLines L) ms ls t ms2 ls2) where
+  same : readDecisions (length ms) (r .arcs .values) 2 mostLines L ≡ readDecisions n (r .arcs .values) 2 mostLines L
+  same = ap (λ (i : ℕ). readDecisions i (r .arcs .values) 2 mostLines L) (length-of n _ ms full)
+
+  -- a wrong line is printed
+  pub carried-wrong : (i : ℕ) → t ≡ the-taken.Wrong i → jobLine i ≡ doneText r s (readDecisions n (r .arcs .values) 2 mostLines L)
+  unfolding doneText
+  carried-wrong i e =
+      let w : readDecisions (length ms) (r .arcs .values) 2 mostLines L ≡ wrongLine i = subst (λ (x : Taken). Took (readDecisions (length ms) (r .arcs .values) 2 mostLines L) ms ls x ms2 ls2) e k in
+      ap (doneText r s) (sym (sym same ∙ w))
+
+  module _ (e : t ≡ the-taken.All) where
+    took : (ds : List _) × (readDecisions (length ms) (r .arcs .values) 2 mostLines L ≡ days (length ms) ds) × (places ms2 ls2 ≡ decides (places ms ls) ds)
+    took = subst (λ (x : Taken). Took (readDecisions (length ms) (r .arcs .values) 2 mostLines L) ms ls x ms2 ls2) e k
+
+    -- all lines are taken: what the filter then tells is printed
+    pub carried-all : toldText (told r s 0 (places ms2 ls2)) ≡ doneText r s (readDecisions n (r .arcs .values) 2 mostLines L)
+    unfolding doneText
+    carried-all =
+        let w = took in
+        ap (λ (ps : List _). toldText (told r s 0 ps)) (w .2 ∙ (ap (λ (xs : List ℕ). decides (places xs ls) (w .0)) full ∙ ap (λ (xs : List ℕ). decides (places (replicate n (2 ^ r .arcs .values - 1)) xs) (w .0)) tops))
+        ∙ ap (doneText r s) (sym (sym same ∙ (w .1 ∙ ap (λ (i : ℕ). days i (w .0)) (length-of n _ ms full))))
+
+    -- and no mask has a bit at or above V
+    pub carried-right : length ms2 ≡ length ms → length ls2 ≡ length ls → masksRight (r .arcs .values) ms2 ≡ true
+    carried-right p q =
+        let m : length ms ≡ n = length-of n _ ms full in
+        let l : length ls ≡ n = length-of n _ ls tops in
+        choices-right (r .arcs .values) ms2 ls2 (omega arith)
+        ∙ (ap (λ (ps : List _). all (choiceRight (r .arcs .values)) ps) (took .2)
+        ∙ decides-right (r .arcs .values) (places ms ls) (took .0) (sym (choices-right (r .arcs .values) ms ls (omega arith)) ∙ (ap (masksRight (r .arcs .values)) full ∙ full-right (r .arcs .values) n)))
+
+-- the first n of equal numbers
+take-replicate : (n m x : ℕ) → n ≤ m → take n (replicate m x) ≡ replicate n x
+take-replicate zero m x h = refl
+take-replicate (suc n) zero x h = absurd (omega arith)
+take-replicate (suc n) (suc m) x h = ap (λ (l : List ℕ). x ∷ l) (take-replicate n m x (omega arith))
+
+pub first-of : (n m x : ℕ) (xs : List ℕ) → n ≤ m → xs ≡ replicate m x → take n xs ≡ replicate n x
+first-of n m x xs h e = ap (take n) e ∙ take-replicate n m x h
+
+-- the days line: n is in range
+pub days-range : (l : List ℕ) (d : Days) (n : ℕ) → daysView d ≡ readDays l → d ≡ the-days.Right n → (1 ≤ n) × (n ≤ mostDays)
+unfolding readDays
+days-range l d n e k =
+    let x : onStrip (strip daysWord l) _ (wrong Form) ≡ right n = sym e ∙ ap daysView k in
+    let (s, e0, f0) = onStrip-right (strip daysWord l) _ n x in
+    let (m, t, e1, f1) = onField-right (readNumber 1 mostDays s) _ n f0 in
+    let w = number-read 1 mostDays s m t e1 in
+    let c = close-right true m n t f1 in
+    (omega (arith, w .low, c .2), omega (arith, w .high, c .2))
+
+-- the job by its first line
+module _ (r : Rules) (s v : ℕ) (text : List ℕ) where
+  pub job-empty : length text ≡ 0 → jobLine 1 ≡ doneText r s (readJob v (lines text))
+  unfolding doneText readJob lines
+  job-empty h = ap (λ (t : List ℕ). doneText r s (readJob v (lines t))) (sym (none text h))
+    where
+      none : (t : List ℕ) → length t ≡ 0 → t ≡ []
+      none [] h = refl
+      none (b ∷ t) h = absurd (omega arith)
+
+  module _ (end : ℕ) (l : LineAt text 0 end) (d : Days) (e : daysView d ≡ readDays (take end text)) where
+    cuts : lines text ≡ take end text ∷ lines (drop end text)
+    cuts = let z : end - 0 ≡ end = omega arith in rw z at (l .cuts)
+
+    pub job-wrong : (f : Fault) → d ≡ the-days.Wrong f → jobLine 1 ≡ doneText r s (readJob v (lines text))
+    unfolding doneText readJob
+    job-wrong f k = sym (rw (cuts, sym e ∙ ap daysView k))
+
+    pub job-right : (n : ℕ) → d ≡ the-days.Right n → readDecisions n v 2 mostLines (lines (drop end text)) ≡ readJob v (lines text)
+    unfolding readJob
+    job-right n k = sym (rw (cuts, sym e ∙ ap daysView k))
+
+-- the parts lent for n days
+pub days-kept : (n : ℕ) (ks : List ℕ) → n ≤ mostDays → length ks ≡ mostDays → length (take n ks) ≡ n
+days-kept n ks h e = length-take-le n ks (omega arith)
+
+pub days-lent : (n full : ℕ) (ms ls ks work : List ℕ) → (1 ≤ n) × (n ≤ mostDays) → ms ≡ replicate mostDays full → ls ≡ replicate mostDays top → length ks ≡ mostDays → length work ≡ workSize mostDays
+    → (1 ≤ length (take n ks)) × (length (take n ks) ≤ mostDays) × (take n ms ≡ replicate (length (take n ks)) full) × (take n ls ≡ replicate (length (take n ks)) top)
+    × (length (take (workSize n) work) ≡ workSize (length (take n ks)))
+days-lent n full ms ls ks work h em el ek ew =
+    let k : length (take n ks) ≡ n = days-kept n ks (h .1) ek in (
+      omega (arith, k, h .0),
+      omega (arith, k, h .1),
+      first-of n mostDays full ms (h .1) em ∙ ap (λ (i : ℕ). replicate i full) (sym k),
+      first-of n mostDays top ls (h .1) el ∙ ap (λ (i : ℕ). replicate i top) (sym k),
+      length-take-le (workSize n) work (omega (arith, h .1)) ∙ ap (λ (i : ℕ). workSize i) (sym k),
+    )

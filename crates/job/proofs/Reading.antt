@@ -1,0 +1,49 @@
+-- What is printed by what the reader says of the sheet. Assumes nothing.
+use mathlib.Core.Path.{_≡_, ap, sym, _∙_, subst}
+use mathlib.Core.Bool.{Bool, true, false}
+use mathlib.Core.List.{List}
+use Prim.Native.Nat.{ℕ, _-_, _<_, _≤_}
+use native.Mathlib.Omega.{arith}
+use lib.ListN.{length, take, drop, replicate, length-drop}
+use lib.Seq.{take-all}
+use borrow.Author.Tests.{eq-eqb, ne-eqb, lt-ltb, le-ltb}
+use Rattle.rules.specs.Bounds.{tableSize}
+use Rattle.rules.specs.Checks.{rulesRight}
+use Rattle.rules.specs.Meaning.{rulesOf}
+use Rattle.text.specs.Lines.{lines}
+use Rattle.sheet.specs.Reading.{Outcome, readLeft, readOf}
+use Rattle.sheet.proofs.OneText.{one-text}
+use Rattle.job.specs.Input.{longestInput, before, parted, after, readJob}
+use Rattle.job.specs.Output.{longText, sheetLine, jobLine}
+use Rattle.job.specs.Job.{doneText, jobDone, sheetDone, jobText}
+
+module _ (s : List ℕ) (r : Outcome) (a n q v b m : ℕ) (t c : List ℕ) (e : readLeft a n q v b m t c ≡ r) where
+  pub sheet-wrong : (a ≡ 0 → ⊥) → sheetLine n ≡ sheetDone s r
+  unfolding sheetDone
+  sheet-wrong h = subst (λ (o : Outcome). sheetLine n ≡ sheetDone s o) e (rw (ne-eqb a 0 h))
+
+  pub job-missing : a ≡ 0 → parted true s ≡ false → jobLine 1 ≡ sheetDone s r
+  unfolding sheetDone jobDone
+  job-missing h k = subst (λ (o : Outcome). jobLine 1 ≡ sheetDone s o) e (rw (eq-eqb a 0 h, k))
+
+  pub job-there : (x : List ℕ) → x ≡ after true s → a ≡ 0 → parted true s ≡ true → doneText (rulesOf q v t c m) b (readJob v (lines x)) ≡ sheetDone s r
+  unfolding sheetDone jobDone
+  job-there x w h k =
+      subst (λ (o : Outcome). doneText (rulesOf q v t c m) b (readJob v (lines x)) ≡ sheetDone s o) e (rw (eq-eqb a 0 h, k, w))
+
+-- the rest of the input, as a part that is lent
+pub rest-is : (s : List ℕ) (i : ℕ) → take (length s - i) (drop i s) ≡ drop i s
+rest-is s i = take-all (length s - i) (drop i s) (omega (arith, length-drop i s))
+
+-- a sheet that is read is a right rule set
+pub read-right : (text xs ys : List ℕ) (a n q v b m : ℕ) (t c : List ℕ) → readLeft a n q v b m t c ≡ readOf text xs ys → a ≡ 0 → rulesRight q v b t c m ≡ true
+read-right text xs ys a n q v b m t c e h = one-text text xs ys n q v b m t c (sym e ∙ ap (λ (i : ℕ). readLeft i n q v b m t c) h) .right
+
+-- the input's length
+pub long-input : (s : List ℕ) → longestInput < length s → longText ≡ jobText s
+unfolding jobText
+long-input s h = rw (lt-ltb longestInput (length s) h)
+
+pub short-input : (s : List ℕ) → length s ≤ longestInput → sheetDone s (readOf (before true s) (replicate tableSize 0) (replicate tableSize 0)) ≡ jobText s
+unfolding jobText
+short-input s h = rw (le-ltb longestInput (length s) h)

@@ -1,0 +1,111 @@
+// The lines of a job, each judged by itself.
+ghost use mathlib.Core.Path.{_≡_};
+ghost use Prim.Native.Nat.{_-_, _^_, _≤_};
+ghost use lib.ListN.{drop};
+ghost use Rattle.rules.specs.Bounds.{mostValues};
+ghost use Rattle.job.specs.Input.{mostDays, readDays, readKeep, readLimit, readDecision};
+ghost use Rattle.job.specs.Inner.{daysView, AskedAt};
+use text::bytes::begins;
+use text::lines::End;
+use text::lines::Fault;
+use text::lines::close_at;
+use text::lines::fault_of;
+use text::numbers::Number;
+use text::numbers::field_at;
+use text::numbers::number_at;
+
+// As many days as a job may have.
+pub(crate) const MOST_DAYS: u32 = 128;
+
+// The first line: n.
+pub(crate) enum Days {
+    Right(usize),
+    Wrong(Fault),
+}
+
+// A later line: a decision.
+pub(crate) enum Asked {
+    Keep(usize, u16),
+    Limit(usize, u32),
+    Wrong(Fault),
+}
+
+// The largest mask of so many values.
+pub(crate) fn highest(values: usize) -> u32
+    requires { ⌜ values ≤ mostValues ⌝ }
+    ensures { λ r. ⌜ r ≡ 2 ^ values - 1 ⌝ }
+{
+    (1u32 << values) - 1
+}
+
+// The days line.
+pub(crate) fn days_line(line: &[u8]) -> Days
+    ensures { λ r. ⌜ daysView r ≡ readDays (now (line .entry)) ⌝ }
+{
+    if !begins(line, b"days\t") {
+        return Days::Wrong(Fault::Form);
+    }
+    let n = number_at(line, 5, 1, MOST_DAYS);
+    let Number::Value(places, end) = n else {
+        return Days::Wrong(fault_of(n));
+    };
+    let e = close_at(line, end, true);
+    match e {
+        End::Fine => Days::Right(places as usize),
+        End::Faulty(f) => Days::Wrong(f),
+    }
+}
+
+// A keep line, past its word.
+pub(crate) fn keep_line(line: &[u8], places: usize, values: usize) -> Asked
+    requires { ⌜ (1 ≤ places) × (places ≤ mostDays) × (values ≤ mostValues) ⌝ }
+    ensures { λ r. ⌜ AskedAt (readKeep places values (drop 5 (now (line .entry)))) places r ⌝ }
+{
+    let a = field_at(line, 5, 0, (places - 1) as u32);
+    let Number::Value(place, at) = a else {
+        return Asked::Wrong(fault_of(a));
+    };
+    let b = number_at(line, at, 0, highest(values));
+    let Number::Value(mask, end) = b else {
+        return Asked::Wrong(fault_of(b));
+    };
+    let e = close_at(line, end, true);
+    match e {
+        End::Fine => Asked::Keep(place as usize, mask as u16),
+        End::Faulty(f) => Asked::Wrong(f),
+    }
+}
+
+// A limit line, past its word.
+pub(crate) fn limit_line(line: &[u8], places: usize) -> Asked
+    requires { ⌜ (1 ≤ places) × (places ≤ mostDays) ⌝ }
+    ensures { λ r. ⌜ AskedAt (readLimit places (drop 6 (now (line .entry)))) places r ⌝ }
+{
+    let a = field_at(line, 6, 0, (places - 1) as u32);
+    let Number::Value(place, at) = a else {
+        return Asked::Wrong(fault_of(a));
+    };
+    let b = number_at(line, at, 0, u32::MAX);
+    let Number::Value(cost, end) = b else {
+        return Asked::Wrong(fault_of(b));
+    };
+    let e = close_at(line, end, true);
+    match e {
+        End::Fine => Asked::Limit(place as usize, cost),
+        End::Faulty(f) => Asked::Wrong(f),
+    }
+}
+
+// A line after the first.
+pub(crate) fn asked_of(line: &[u8], places: usize, values: usize) -> Asked
+    requires { ⌜ (1 ≤ places) × (places ≤ mostDays) × (values ≤ mostValues) ⌝ }
+    ensures { λ r. ⌜ AskedAt (readDecision places values (now (line .entry))) places r ⌝ }
+{
+    if begins(line, b"keep\t") {
+        return keep_line(line, places, values);
+    }
+    if begins(line, b"limit\t") {
+        return limit_line(line, places);
+    }
+    Asked::Wrong(Fault::Form)
+}

@@ -1,0 +1,132 @@
+-- The looks of the forward pass: state by state along one value, then value by value.
+use mathlib.Core.Path.{_≡_, refl, sym, ap, _∙_}
+use mathlib.Core.Bool.{Bool, true, false, cond, _&&_, _||_, or-false, or-comm}
+use mathlib.Core.List.{List}
+use Prim.Native.Nat.{ℕ, zero, suc, _+_, _*_, _^_, _≤_, _<_, min}
+use native.Mathlib.Numerals.{add-one}
+use native.Mathlib.Omega.{arith}
+use native.Mathlib.Decide.{ℕ-discrete}
+use lib.Dec.{ltb, eqb}
+use lib.ListN.{length, getD, set, take, drop}
+use lib.Seq.{getD-set-same, getD-set-other}
+use borrow.Author.Tests.{eq-eqb, ne-eqb, lt-ltb, le-ltb}
+use Rattle.kinds.specs.Bits.{width, bit, maskOf}
+use Rattle.kinds.proofs.Bits.{bit-mask, bit-none, mask-is, mask-lt}
+use Rattle.rules.specs.Bounds.{top}
+use Rattle.rules.proofs.Lists.{in-any}
+use Rattle.rooms.specs.Tables.{down, choices, turned}
+use Rattle.reach.specs.Looks.{along, looks, reach, marks, arrive, joins, struck, lowest, Pushed, Swept}
+use Rattle.rooms.proofs.Rooms.{in-down}
+use Rattle.rooms.proofs.Filling.{row-part}
+use Rattle.rooms.proofs.Raising.{choices-none, choices-more, choices-skip}
+use Rattle.reach.proofs.Reach.{reach-join, marks-join}
+
+-- state by state: the least costs
+module _ (ts cs front : List ℕ) where
+  pub pushed-none : (was : List ℕ) → Pushed ts cs front 0 was was
+  unfolding arrive
+  pushed-none was = record { right = λ t. refl }
+
+  pub pushed-more : {was is : List ℕ} (q x : ℕ) → getD ts q 0 < length is → Pushed ts cs front q was is
+      → x ≡ min (getD front q 0 + getD cs q 0) (getD is (getD ts q 0) 0) → Pushed ts cs front (q + 1) was (set is (getD ts q 0) x)
+  unfolding arrive
+  pushed-more {was} {is} q x h p e = record { right = λ t. rw add-one (go t (ℕ-discrete t (getD ts q 0))) }
+    where
+      go : (t : ℕ) → Dec (t ≡ getD ts q 0) → getD (set is (getD ts q 0) x) t 0
+          ≡ cond (eqb (getD ts q 0) t) (min (getD front q 0 + getD cs q 0) (arrive ts cs front (getD was t 0) t q)) (arrive ts cs front (getD was t 0) t q)
+      go t (yes d) = rw (eq-eqb (getD ts q 0) t (sym d), ← p .right t, d) (getD-set-same is (getD ts q 0) x 0 h ∙ e)
+      go t (no d) = rw (ne-eqb (getD ts q 0) t (λ k. d (sym k)), ← p .right t) (getD-set-other is (getD ts q 0) t x 0 d)
+
+  pub pushed-end : {was is : List ℕ} {q n : ℕ} → Pushed ts cs front q was is → q ≤ n → n ≤ q → Pushed ts cs front n was is
+  pushed-end {was} {is} {q} {n} p h k = let e : q ≡ n = omega arith in rw e at p
+
+-- state by state: whether one joins
+module _ (ts cs front next : List ℕ) where
+  pub joins-none : joins ts cs front next 0 ≡ false
+  unfolding joins down
+  joins-none = refl
+
+  pub joins-more : (q : ℕ) {b : Bool} → joins ts cs front next q ≡ false → b ≡ ltb (getD front q 0 + getD cs q 0) (getD next (getD ts q 0) 0) → b ≡ false
+      → joins ts cs front next (q + 1) ≡ false
+  unfolding joins down
+  joins-more q e d f = rw (add-one, sym d ∙ f, e)
+
+  pub joins-here : (q n : ℕ) {b : Bool} → q < n → b ≡ ltb (getD front q 0 + getD cs q 0) (getD next (getD ts q 0) 0) → b ≡ true → true ≡ joins ts cs front next n
+  unfolding joins
+  joins-here q n h d f = sym (in-any (λ q. ltb (getD front q 0 + getD cs q 0) (getD next (getD ts q 0) 0)) (in-down n q h) (sym d ∙ f))
+
+pub lowest-none : (row : List ℕ) → 366001 ≡ lowest row 0
+unfolding lowest top
+lowest-none row = refl
+
+pub lowest-more : (row : List ℕ) (q x z : ℕ) → x ≡ lowest row q → z ≡ min (getD row q 0) x → z ≡ lowest row (q + 1)
+unfolding lowest
+lowest-more row q x z e f = rw (f, e, add-one)
+
+-- a mask with a value more, or as it is
+pub marked-yes : (m v : ℕ) (r : ℕ) (on : Bool) → on ≡ true → r ≡ maskOf (λ u. bit m u || eqb u v) width → r ≡ maskOf (λ u. bit m u || (on && eqb u v)) width
+marked-yes m v r on e h = rw e h
+
+pub marked-no : (m v : ℕ) (on : Bool) → m < 2 ^ width → on ≡ false → m ≡ maskOf (λ u. bit m u || (on && eqb u v)) width
+marked-no m v on h e = mask-is (λ u. bit m u || (on && eqb u v)) width m h (λ u l. sym (rw e (or-false (bit m u))))
+
+-- a row of the turned tables, as the looks along a value see it
+module _ (ts cs : List ℕ) (v k : ℕ) (front : List ℕ) where
+  arrive-is : (most t n : ℕ) → n ≤ k
+      → arrive (take k (drop (v * 64) ts)) (take k (drop (v * 64) cs)) front most t n ≡ reach (turned ts cs) (λ q. getD front q 0) most t (along n v)
+  unfolding arrive reach turned down
+  arrive-is most t zero h = refl
+  arrive-is most t (suc n) h = rw (arrive-is most t n (omega arith), row-part ts v k n (omega arith), row-part cs v k n (omega arith))
+
+  joins-is : (next : List ℕ) (u n : ℕ) → n ≤ k
+      → (joins (take k (drop (v * 64) ts)) (take k (drop (v * 64) cs)) front next n && eqb u v) ≡ marks (turned ts cs) (λ t. getD next t 0) (λ q. getD front q 0) u (along n v)
+  unfolding joins marks turned down
+  joins-is next u zero h = refl
+  joins-is next u (suc n) h =
+      rw (row-part ts v k n (omega arith), row-part cs v k n (omega arith), ← joins-is next u n (omega arith))
+      (spread (ltb (getD front n 0 + getD cs (v * 64 + n) 0) (getD next (getD ts (v * 64 + n) 0) 0)) _ (eqb u v))
+    where
+      spread : (a b d : Bool) → ((a || b) && d) ≡ ((a && d) || (b && d))
+      spread true true true = refl
+      spread true true false = refl
+      spread true false true = refl
+      spread true false false = refl
+      spread false b d = refl
+
+-- value by value
+module _ (ts cs : List ℕ) (qs m : ℕ) (front next : List ℕ) where
+  pub swept-none : (was : List ℕ) → Swept (turned ts cs) qs (choices 0 m) front next was was 0
+  unfolding reach marks
+  swept-none was = record { costs = λ t. rw choices-none; values = λ v h. rw choices-none (bit-none v); small = omega arith }
+
+  pub swept-more : (v k : ℕ) {was mid is : List ℕ} {x y : ℕ} {on : Bool} → bit m v ≡ true → qs ≤ k
+      → Swept (turned ts cs) qs (choices v m) front next was mid x
+      → Pushed (take k (drop (v * 64) ts)) (take k (drop (v * 64) cs)) front qs mid is
+      → on ≡ joins (take k (drop (v * 64) ts)) (take k (drop (v * 64) cs)) front next qs
+      → y ≡ maskOf (λ u. bit x u || (on && eqb u v)) width → {out : List ℕ} {z : ℕ} → out ≡ is → z ≡ y
+      → Swept (turned ts cs) qs (choices (v + 1) m) front next was out z
+  swept-more v k {was} {mid} {is} {x} {y} {on} e h s p j z {out} d f = rw (d, f) (record {
+    costs = λ t. rw (choices-more v m e) (p .right t ∙ (arrive-is ts cs v k front (getD mid t 0) t qs h
+        ∙ (ap (λ (b : ℕ). reach (turned ts cs) (λ q. getD front q 0) b t (along qs v)) (s .costs t)
+        ∙ sym (reach-join (turned ts cs) (λ q. getD front q 0) (getD was t 0) t (along qs v) (looks qs (choices v m))))));
+    values = λ u l. rw (choices-more v m e) (ap (λ (n : ℕ). bit n u) z ∙ (bit-mask (λ u. bit x u || (on && eqb u v)) width u l
+        ∙ (ap (λ (b : Bool). bit x u || (b && eqb u v)) j ∙ (or-comm (bit x u) _
+        ∙ (rw (joins-is ts cs v k front next u qs h, s .values u l)
+        (sym (marks-join (turned ts cs) (λ t. getD next t 0) (λ q. getD front q 0) u (along qs v) (looks qs (choices v m)))))))));
+    small = rw z (mask-lt (λ u. bit x u || (on && eqb u v)) width);
+  })
+
+  pub swept-skip : (v : ℕ) {was mid : List ℕ} {x : ℕ} → bit m v ≡ false → Swept (turned ts cs) qs (choices v m) front next was mid x
+      → {out : List ℕ} {z : ℕ} → out ≡ mid → z ≡ x → Swept (turned ts cs) qs (choices (v + 1) m) front next was out z
+  swept-skip v e s d f = rw (choices-skip v m e, d, f) s
+
+  pub swept-end : {v vs : ℕ} {was is : List ℕ} {x : ℕ} → v ≤ vs → vs ≤ v → Swept (turned ts cs) qs (choices v m) front next was is x
+      → Swept (turned ts cs) qs (choices vs m) front next was is x
+  swept-end {v} {vs} h k s = let e : v ≡ vs = omega arith in rw e at s
+
+pub struck-yes : (x n : ℕ) → x < n → x ≡ struck x n
+struck-yes x n h = rw (lt-ltb x n h)
+
+pub struck-no : (x n : ℕ) → n ≤ x → 366001 ≡ struck x n
+unfolding top
+struck-no x n h = rw (le-ltb x n h)

@@ -1,0 +1,184 @@
+-- The walk along the first roster, place by place.
+use mathlib.Core.Path.{_≡_, refl, sym, ap, _∙_, subst}
+use mathlib.Core.Bool.{Bool, true, false, and-eq-true-iff, false≢true}
+use mathlib.Core.List.{List, [], _∷_, _++_, map, append-assoc, append-nil}
+use mathlib.Core.List.{List·Memᴰ as In, List·Memᴰ·not-nil as not-nil}
+use Prim.Native.Nat.{ℕ, suc, _+_, _*_, _-_, _≤_, _<_}
+use native.Mathlib.Numerals.{add-one}
+use native.Mathlib.Omega.{arith}
+use native.Mathlib.Decide.{ℕ-discrete, decLt}
+use lib.Dec.{eqb}
+use lib.ListN.{length, getD, set, take, drop}
+use lib.Seq.{take-suc-set, take-all}
+use borrow.Author.Tests.{ltb-true, eq-eqb, ne-eqb}
+use Rattle.kinds.specs.Bits.{bit}
+use Rattle.rules.specs.Bounds.{top}
+use Rattle.rules.specs.Lists.{those}
+use Rattle.rules.specs.Meaning.{Rules, rulesOf, Place, place, places, rosters, allowed}
+use Rattle.rules.proofs.Members.{roster-in, allowed-length}
+use Rattle.rooms.specs.Tables.{Filled, Net, turned, frame, room, Loaded}
+use Rattle.reach.specs.Looks.{LowRows, Meant, takeable, Tried, Walks}
+use Rattle.rooms.proofs.Rooms.{Way, room-way}
+use Rattle.rooms.proofs.Layering.{drop-places, drop-all, copied-row, row-copied}
+use Rattle.reach.proofs.Firsts.{first-goes, first-way, first-none}
+
+-- two maps one upon the other
+map-two : {A B C : Type 0} (f : B → C) (g : A → B) (h : A → C) (xs : List A) → ((x : A) → f (g x) ≡ h x) → map f (map g xs) ≡ map h xs
+map-two f g h [] e = refl
+map-two f g h (x ∷ xs) e = rw (e x, map-two f g h xs e)
+
+map-same : {A B : Type 0} (f g : A → B) (xs : List A) → ((x : A) → f x ≡ g x) → map f xs ≡ map g xs
+map-same f g [] e = refl
+map-same f g (x ∷ xs) e = rw (e x, map-same f g xs e)
+
+map-all : {A : Type 0} (xs : List A) → xs ≡ map (λ x. x) xs
+map-all [] = refl
+map-all {A} (x ∷ xs) = ap (λ (l : List A). x ∷ l) (map-all xs)
+
+-- behind the last place the empty roster is left, if some is
+ends : (r : Rules) (q s : ℕ) (ps : List Place) → ps ≡ [] → Way r q s ps → rosters r q s ps ≡ [] ∷ []
+unfolding rosters
+ends r q s [] e y = go (y .roster) (y .allows)
+  where
+    go : (w : List ℕ) → allowed r q s [] w ≡ true → those (allowed r q s []) ([] ∷ []) ≡ [] ∷ []
+    go [] k = rw k
+    go (v ∷ w) k = absurd (false≢true k)
+ends r q s (p ∷ ps) e y = let z : _≡_ {A = ℕ} 0 1 = cc in absurd (omega arith)
+
+-- values tried one after the other
+pub tried-none : (a : Net) (next : List ℕ) (m q s : ℕ) → Tried a next m q s 0
+tried-none a next m q s = record { none = λ u h. absurd (omega arith) }
+
+pub tried-more : (a : Net) (next : List ℕ) (m q s v : ℕ) {b : Bool} → Tried a next m q s v → b ≡ takeable a next m q s v → b ≡ false → Tried a next m q s (v + 1)
+tried-more a next m q s v t e f = record { none = λ u h. go u h (ℕ-discrete u v) }
+  where
+    go : (u : ℕ) → u < v + 1 → Dec (u ≡ v) → takeable a next m q s u ≡ false
+    go u h (yes d) = rw d (sym e ∙ f)
+    go u h (no d) = t .none u (omega arith)
+
+pub record Walking (a : Net) (qs vs start spent : ℕ) (ms work was is next : List ℕ) (q s i : ℕ) : Type 0 where
+  pub state : q < qs
+  pub low : s ≤ top
+  pub none : (k : ℕ) → qs ≤ k → getD next k 0 ≡ 0
+  pub fresh : i ≡ 0 → is ≡ was
+  pub way : 0 < i → (t c ls : List ℕ) (accepting : ℕ) → Meant a qs vs ms work t c ls accepting → s < room (frame a qs vs accepting) (drop i (places ms ls)) q
+  pub first : (t c ls : List ℕ) (accepting : ℕ) → Meant a qs vs ms work t c ls accepting
+      → take 1 (rosters (rulesOf qs vs t c accepting) start spent (places ms ls)) ≡ map (λ w. take i is ++ w) (take 1 (rosters (rulesOf qs vs t c accepting) q s (drop i (places ms ls))))
+
+module _ (a : Net) (qs vs start spent : ℕ) (ms work was : List ℕ) where
+  pub walking-starts : (next : List ℕ) → start < qs → spent ≤ top → Loaded (λ t. getD next t 0) qs next → Walking a qs vs start spent ms work was was next start spent 0
+  walking-starts next h k l = record {
+    state = h;
+    low = k;
+    none = l .none;
+    fresh = λ e. refl;
+    way = λ e. absurd (omega arith);
+    first = λ t c ls accepting m. map-all (take 1 (rosters (rulesOf qs vs t c accepting) start spent (places ms ls)));
+  }
+
+  module _ (is next now : List ℕ) (q s i v : ℕ) (h64 : qs ≤ 64) (hi : i < length ms) (ho : length is ≡ length ms) (lows : LowRows qs (length ms) work)
+      (w : Walking a qs vs start spent ms work was is next q s i)
+      (l : Filled (λ k. getD (take ((i + 1) * 64 + 64 - (i + 1) * 64) (drop ((i + 1) * 64) work)) k 0) qs next now)
+      (tried : Tried a now (getD ms i 0) q s v) where
+    beyond : (k : ℕ) → qs ≤ k → getD now k 0 ≡ 0
+    beyond k h = l .left k h ∙ w .none k h
+
+    -- one place on, by the smallest value that can be taken
+    pub walking-more : v < vs → {b : Bool} → b ≡ takeable a now (getD ms i 0) q s v → b ≡ true → {t c : ℕ} → t ≡ a .to q v → c ≡ s + a .fee q v
+        → Walking a qs vs start spent ms work was (set is i v) now t c (i + 1)
+    walking-more hv e d {t} {c} et ec = rw (et, ec) (record {
+      state = state;
+      low = low;
+      none = beyond;
+      fresh = λ k. absurd (omega arith);
+      way = λ k t c ls accepting m.
+          rw add-one (first-way (rulesOf qs vs t c accepting) a (m .arcs) q s (place (getD ms i 0) (getD ls i 0)) (drop (suc i) (places ms ls)) (w .state) (λ u. getD now u 0)
+          (row-copied (frame a qs vs accepting) ms ls (m .limits) i work next now h64 hi (m .rooms) (w .none) l) v hv (sym e ∙ d) .0);
+      first = λ t c ls accepting m. w .first t c ls accepting m ∙ onward t c ls accepting m;
+    })
+      where
+        roomy : s + a .fee q v < getD now (a .to q v) 0
+        roomy = ltb-true _ _ (and-eq-true-iff (bit (getD ms i 0) v) _ .0 (sym e ∙ d) .1)
+
+        state : a .to q v < qs
+        state = go (decLt (a .to q v) qs)
+          where
+            go : Dec (a .to q v < qs) → a .to q v < qs
+            go (yes k) = k
+            go (no k) = absurd (omega (arith, roomy, beyond (a .to q v) (omega arith)))
+
+        low : s + a .fee q v ≤ top
+        low = omega (arith, roomy, copied-row i work qs next now h64 l (a .to q v) state, lows .low (suc i) (a .to q v) (omega arith) state)
+
+        onward : (t c ls : List ℕ) (accepting : ℕ) → Meant a qs vs ms work t c ls accepting
+            → map (λ z. take i is ++ z) (take 1 (rosters (rulesOf qs vs t c accepting) q s (drop i (places ms ls))))
+            ≡ map (λ z. take (i + 1) (set is i v) ++ z) (take 1 (rosters (rulesOf qs vs t c accepting) (a .to q v) (s + a .fee q v) (drop (i + 1) (places ms ls))))
+        onward t c ls accepting m =
+            rw (
+              drop-places ms ls i (m .limits) hi,
+              first-goes (rulesOf qs vs t c accepting) a (m .arcs) q s (place (getD ms i 0) (getD ls i 0)) (drop (suc i) (places ms ls)) (w .state) (λ u. getD now u 0)
+                  (row-copied (frame a qs vs accepting) ms ls (m .limits) i work next now h64 hi (m .rooms) (w .none) l) v hv (tried .none) (sym e ∙ d),
+              add-one,
+              take-suc-set is i v (omega arith),
+            )
+            (map-two (λ z. take i is ++ z) (λ z. v ∷ z) (λ z. (take i is ++ (v ∷ [])) ++ z) (take 1 (rosters (rulesOf qs vs t c accepting) (a .to q v) (s + a .fee q v) (drop (suc i) (places ms ls)))) (λ z. sym (append-assoc (take i is) (v ∷ []) z)))
+
+    -- where no value can be taken: this is the first place, and there is no roster
+    module _ (hv : vs ≤ v) (t c ls : List ℕ) (accepting : ℕ) (m : Meant a qs vs ms work t c ls accepting) where
+      stuck : rosters (rulesOf qs vs t c accepting) q s (drop i (places ms ls)) ≡ []
+      stuck = rw (drop-places ms ls i (m .limits) hi)
+          (first-none (rulesOf qs vs t c accepting) a (m .arcs) q s (place (getD ms i 0) (getD ls i 0)) (drop (suc i) (places ms ls)) (w .state) (λ u. getD now u 0)
+          (row-copied (frame a qs vs accepting) ms ls (m .limits) i work next now h64 hi (m .rooms) (w .none) l) (λ u k. tried .none u (omega arith)))
+
+      at-first : i ≡ 0
+      at-first = go (decLt 0 i)
+        where
+          go : Dec (0 < i) → i ≡ 0
+          go (yes k) =
+              let y = room-way (rulesOf qs vs t c accepting) a (m .arcs) (drop i (places ms ls)) q s (w .way k t c ls accepting m) in
+              absurd (not-nil (subst (λ (z : List (List ℕ)). In (y .roster) z) stuck
+              (roster-in (rulesOf qs vs t c accepting) q s (drop i (places ms ls)) (y .roster) .1 (allowed-length (rulesOf qs vs t c accepting) q s (drop i (places ms ls)) (y .roster) (y .allows), y .below, y .allows))))
+          go (no k) = omega arith
+
+      none-there : rosters (rulesOf qs vs t c accepting) start spent (places ms ls) ≡ []
+      none-there = nil _ (w .first t c ls accepting m ∙ rw stuck)
+        where
+          nil : (ws : List (List ℕ)) → take 1 ws ≡ [] → ws ≡ []
+          nil [] e = refl
+          nil (x ∷ ws) e = let z : _≡_ {A = ℕ} 0 1 = cc in absurd (omega arith)
+
+    pub walks-none : vs ≤ v → Walks a qs vs start spent ms work was is (eqb i (length ms))
+    walks-none hv = record {
+      some = λ e. absurd (false≢true (sym (ne-eqb i (length ms) (λ d. omega arith)) ∙ e));
+      none = λ e t c ls accepting m. none-there hv t c ls accepting m;
+      unwritten = λ e t c ls accepting m. w .fresh (at-first hv t c ls accepting m);
+    }
+
+  pub walks-some : (is next : List ℕ) (q s i : ℕ) → 1 ≤ length ms → i ≤ length ms → length ms ≤ i → length is ≡ length ms
+      → Walking a qs vs start spent ms work was is next q s i → Walks a qs vs start spent ms work was is (eqb i (length ms))
+  walks-some is next q s i h1 hi hj ho w =
+      let e : i ≡ length ms = omega arith in
+      let d : eqb i (length ms) ≡ true = eq-eqb i (length ms) e in
+      record {
+        some = λ k t c ls accepting m. w .first t c ls accepting m ∙ last t c ls accepting m;
+        none = λ k. absurd (false≢true (sym k ∙ d));
+        unwritten = λ k. absurd (false≢true (sym k ∙ d));
+      }
+    where
+      last : (t c ls : List ℕ) (accepting : ℕ) → Meant a qs vs ms work t c ls accepting
+          → map (λ z. take i is ++ z) (take 1 (rosters (rulesOf qs vs t c accepting) q s (drop i (places ms ls)))) ≡ is ∷ []
+      last t c ls accepting m =
+          let e : i ≡ length ms = omega arith in
+          let d : drop i (places ms ls) ≡ [] = rw e (drop-all ms ls (m .limits)) in
+          let y = room-way (rulesOf qs vs t c accepting) a (m .arcs) (drop i (places ms ls)) q s (w .way (omega arith) t c ls accepting m) in
+          let f : take i is ++ [] ≡ is = append-nil (take i is) ∙ take-all i is (omega arith) in
+          rw (ends (rulesOf qs vs t c accepting) q s (drop i (places ms ls)) d y, f)
+
+-- the turned tables, read
+pub turned-to : (ts cs : List ℕ) (q v : ℕ) → getD ts (v * 64 + q) 0 ≡ turned ts cs .to q v
+unfolding turned
+turned-to ts cs q v = refl
+
+pub turned-fee : (ts cs : List ℕ) (q s v : ℕ) → s + getD cs (v * 64 + q) 0 ≡ s + turned ts cs .fee q v
+unfolding turned
+turned-fee ts cs q s v = refl

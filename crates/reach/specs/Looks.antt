@@ -1,0 +1,123 @@
+-- The forward pass and the walk, as functions. Inner: no public contract cites this file; proofs/ shows what they mean.
+use mathlib.Core.Bool.{Bool, true, false, cond, _&&_}
+use mathlib.Core.List.{List, [], _∷_, map}
+use mathlib.Core.Path.{_≡_}
+use Prim.Native.Nat.{ℕ, zero, suc, _+_, _*_, _^_, _≤_, _<_, min}
+use lib.Dec.{ltb, eqb}
+use lib.ListN.{length, getD, take}
+use Rattle.kinds.specs.Bits.{width, bit}
+use Rattle.rules.specs.Bounds.{mostStates, top}
+use Rattle.rules.specs.Lists.{each, any}
+use Rattle.rules.specs.Meaning.{arcsOf, rulesOf, cost, places, rosters, first, toldOf, told}
+use Rattle.rooms.specs.Tables.{down, Net, turned, Same, frame, Filled, room, before, Layers}
+
+-- FORWARD. A look at a value from a state; `front` has the least cost at each state, one more than the top where there is none.
+pub record Look : Type 0 where
+  pub state : ℕ
+  pub value : ℕ
+
+abbrev pub look : ℕ → ℕ → Look
+look q v = record { state = q; value = v }
+
+abbrev pub along : ℕ → ℕ → List Look
+along qs v = map (λ q. look q v) (down qs)
+
+abbrev pub looks : ℕ → List ℕ → List Look
+looks qs vs = each (along qs) vs
+
+abbrev pub spends : Net → (ℕ → ℕ) → Look → ℕ
+spends a front x = front (x .state) + a .fee (x .state) (x .value)
+
+abbrev pub leads : Net → Look → ℕ
+leads a x = a .to (x .state) (x .value)
+
+-- the value can be taken, and a roster goes on from there
+abbrev pub lands : Net → (ℕ → ℕ) → (ℕ → ℕ) → Look → Bool
+lands a next front x = ltb (spends a front x) (next (leads a x))
+
+-- the least cost at which a look leads to state t, `most` if none does for less
+unfoldable pub reach : Net → (ℕ → ℕ) → ℕ → ℕ → List Look → ℕ
+reach a front most t [] = most
+reach a front most t (x ∷ xs) =
+    cond (eqb (leads a x) t) (min (spends a front x) (reach a front most t xs)) (reach a front most t xs)
+
+-- some look takes value v and lands
+unfoldable pub marks : Net → (ℕ → ℕ) → (ℕ → ℕ) → ℕ → List Look → Bool
+marks a next front v xs = any (λ x. lands a next front x && eqb v (x .value)) xs
+
+-- the same along one row of the turned tables, for the states below q
+unfoldable pub arrive : List ℕ → List ℕ → List ℕ → ℕ → ℕ → ℕ → ℕ
+arrive ts cs front most t zero = most
+arrive ts cs front most t (suc q) =
+    cond (eqb (getD ts q 0) t) (min (getD front q 0 + getD cs q 0) (arrive ts cs front most t q)) (arrive ts cs front most t q)
+
+unfoldable pub joins : List ℕ → List ℕ → List ℕ → List ℕ → ℕ → Bool
+joins ts cs front next qs = any (λ q. ltb (getD front q 0 + getD cs q 0) (getD next (getD ts q 0) 0)) (down qs)
+
+-- a cost, struck where it leaves no room
+abbrev pub struck : ℕ → ℕ → ℕ
+struck cost room = cond (ltb cost room) cost (suc top)
+
+-- the least cost of the states below q
+unfoldable pub lowest : List ℕ → ℕ → ℕ
+lowest row zero = suc top
+lowest row (suc q) = min (getD row q 0) (lowest row q)
+
+-- costs of states, none above the top but by one
+pub record Low (n : ℕ) (front : List ℕ) : Type 0 where
+  pub low : (k : ℕ) → k < n → getD front k 0 ≤ suc top
+
+-- rows of the work table that hold costs
+pub record LowRows (n rows : ℕ) (work : List ℕ) : Type 0 where
+  pub low : (j k : ℕ) → j ≤ rows → k < n → getD work (j * mostStates + k) 0 ≤ suc top
+
+-- the front before the first place: the start alone, if its room has the cost already spent
+pub record Opened (n start spent room : ℕ) (front : List ℕ) : Type 0 where
+  pub right : (q : ℕ) → q < n → getD front q 0 ≡ cond (eqb q start) (struck spent room) (suc top)
+
+-- a row of least costs after the looks along one row of the turned tables
+pub record Pushed (ts cs front : List ℕ) (n : ℕ) (was is : List ℕ) : Type 0 where
+  pub right : (t : ℕ) → getD is t 0 ≡ arrive ts cs front (getD was t 0) t n
+
+-- the looks at the values of a mask: the least costs, and the values that are kept
+pub record Swept (a : Net) (qs : ℕ) (vs : List ℕ) (front next was is : List ℕ) (kept : ℕ) : Type 0 where
+  pub costs : (t : ℕ) → getD is t 0 ≡ reach a (λ q. getD front q 0) (getD was t 0) t (looks qs vs)
+  pub values : (v : ℕ) → v < width → bit kept v ≡ marks a (λ t. getD next t 0) (λ q. getD front q 0) v (looks qs vs)
+  pub small : kept < 2 ^ width
+
+-- one place of the forward pass
+pub record Stepped (a : Net) (qs : ℕ) (vs row front next onward front′ next′ onward′ : List ℕ) (kept : ℕ) : Type 0 where
+  pub loaded : Filled (λ k. getD row k 0) qs next next′
+  pub costs : (t : ℕ) → t < qs → getD front′ t 0 ≡ struck (reach a (λ q. getD front q 0) (getD onward t 0) t (looks qs vs)) (getD next′ t 0)
+  pub values : (v : ℕ) → v < width → bit kept v ≡ marks a (λ t. getD next′ t 0) (λ q. getD front q 0) v (looks qs vs)
+  pub small : kept < 2 ^ width
+  pub blank : (t : ℕ) → t < qs → getD onward′ t 0 ≡ suc top
+
+-- tables and limits of which a net and a work table are the image
+pub record Meant (a : Net) (qs vs : ℕ) (ms work t c ls : List ℕ) (accepting : ℕ) : Type 0 where
+  pub limits : length ls ≡ length ms
+  pub arcs : Same (arcsOf qs vs t c) vs a
+  pub rooms : Layers (frame a qs vs accepting) ms ls 0 work
+
+-- the masks and the least cost that the forward pass gives, as the list of rosters tells them
+pub record Tells (a : Net) (qs vs start spent : ℕ) (ms work out : List ℕ) (least : ℕ) : Type 0 where
+  pub some : (t c ls : List ℕ) (accepting : ℕ) → Meant a qs vs ms work t c ls accepting → least ≤ top
+      → toldOf 0 out least ≡ told (rulesOf qs vs t c accepting) start spent (places ms ls)
+  pub none : (t c ls : List ℕ) (accepting : ℕ) → Meant a qs vs ms work t c ls accepting → top < least
+      → toldOf 11 out 0 ≡ told (rulesOf qs vs t c accepting) start spent (places ms ls)
+
+-- FIRST ROSTER. Whether a value can be taken at a state, with a cost spent.
+abbrev pub takeable : Net → List ℕ → ℕ → ℕ → ℕ → ℕ → Bool
+takeable a next m q spent v = bit m v && ltb (spent + a .fee q v) (getD next (a .to q v) 0)
+
+-- no value below v can
+pub record Tried (a : Net) (next : List ℕ) (m q spent v : ℕ) : Type 0 where
+  pub none : (u : ℕ) → u < v → takeable a next m q spent u ≡ false
+
+-- what a walk along the smallest values finds: the first roster; or there is none, and nothing was written
+pub record Walks (a : Net) (qs vs start spent : ℕ) (ms work was is : List ℕ) (found : Bool) : Type 0 where
+  pub some : found ≡ true → (t c ls : List ℕ) (accepting : ℕ) → Meant a qs vs ms work t c ls accepting
+      → take 1 (rosters (rulesOf qs vs t c accepting) start spent (places ms ls)) ≡ is ∷ []
+  pub none : found ≡ false → (t c ls : List ℕ) (accepting : ℕ) → Meant a qs vs ms work t c ls accepting
+      → rosters (rulesOf qs vs t c accepting) start spent (places ms ls) ≡ []
+  pub unwritten : found ≡ false → (t c ls : List ℕ) (accepting : ℕ) → Meant a qs vs ms work t c ls accepting → is ≡ was

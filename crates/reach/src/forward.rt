@@ -1,0 +1,249 @@
+// The forward pass: the least cost at each state of a prefix that a roster goes on from, and the values that are kept.
+ghost use mathlib.Core.Path.{_≡_};
+ghost use mathlib.Core.Bool.{_&&_, _||_};
+ghost use Prim.Native.Nat.{suc, _+_, _*_, _≤_, _<_};
+ghost use lib.Dec.{ltb, eqb};
+ghost use lib.ListN.{length, getD};
+ghost use Rattle.kinds.specs.Bits.{width, bit, maskOf};
+ghost use Rattle.rules.specs.Bounds.{mostStates, mostValues, tableSize, top};
+ghost use Rattle.rooms.specs.Tables.{Filled, turned, choices, Loaded, Ready};
+ghost use Rattle.reach.specs.Looks.{joins, struck, lowest, Low, LowRows, Pushed, Swept, Opened, Stepped, Tells};
+use kinds::Mask;
+use kinds::State;
+use kinds::Value;
+use rooms::backward::TOP;
+use rooms::rows;
+use rules::bounds;
+
+// The least costs, lowered by the arcs on one value.
+pub fn push(states: usize, targets: &[u8], costs: &[u16], front: &[u32], onward: &mut [u32])
+    requires { ⌜ (states ≤ length (now targets)) × (states ≤ length (now costs)) × (states ≤ length (now front)) × (length (now onward) ≡ 256) × Low states (now front) ⌝ }
+    ensures { λ _. ⌜ Pushed (now (targets .entry)) (now (costs .entry)) (now (front .entry)) states (now (onward .entry)) (now (onward .exit)) ⌝ }
+{
+    let mut q: usize = 0;
+    while q < states {
+        let to = targets[q] as usize;
+        let spent = front[q] + (costs[q] as u32);
+        onward[to] = rows::lesser(spent, onward[to]);
+        q += 1;
+    }
+}
+
+// Whether the arc of a state leaves a way to the end.
+pub fn joins_at(targets: &[u8], costs: &[u16], front: &[u32], next: &[u32], q: State) -> bool
+    requires { ⌜ (q .0 < length (now targets)) × (q .0 < length (now costs)) × (q .0 < length (now front)) × (length (now next) ≡ 256) × (getD (now front) (q .0) 0 ≤ suc top) ⌝ }
+    ensures { λ r. ⌜ r ≡ ltb (getD (now (front .entry)) (q .0) 0 + getD (now (costs .entry)) (q .0) 0) (getD (now (next .entry)) (getD (now (targets .entry)) (q .0) 0) 0) ⌝ }
+{
+    let at = q.0 as usize;
+    let spent = front[at] + (costs[at] as u32);
+    spent < next[targets[at] as usize]
+}
+
+// A state whose arc leaves a way to the end, the one to try first before all others; the number of states, where there is none.
+pub fn support(
+    states: usize,
+    targets: &[u8],
+    costs: &[u16],
+    front: &[u32],
+    next: &[u32],
+    hint: State,
+) -> State
+    requires { ⌜ (states ≤ mostStates) × (states ≤ length (now targets)) × (states ≤ length (now costs)) × (states ≤ length (now front)) × (length (now next) ≡ 256) × Low states (now front) ⌝ }
+    ensures { λ r. ⌜ ltb (r .0) states ≡ joins (now (targets .entry)) (now (costs .entry)) (now (front .entry)) (now (next .entry)) states ⌝ }
+{
+    if (hint.0 as usize) < states {
+        if joins_at(targets, costs, front, next, State(hint.0)) {
+            return hint;
+        }
+    }
+    let mut q: u8 = 0;
+    while (q as usize) < states {
+        if joins_at(targets, costs, front, next, State(q)) {
+            return State(q);
+        }
+        q += 1;
+    }
+    State(q)
+}
+
+// Whether a value is kept; its support is noted, to be tried first at the next place.
+pub fn supported(
+    states: usize,
+    targets: &[u8],
+    costs: &[u16],
+    front: &[u32],
+    next: &[u32],
+    v: Value,
+    hints: &mut [u8],
+) -> bool
+    requires { ⌜ (states ≤ mostStates) × (states ≤ length (now targets)) × (states ≤ length (now costs)) × (states ≤ length (now front)) × (length (now next) ≡ 256) × Low states (now front) × (v .0 < length (now hints)) ⌝ }
+    ensures { λ r. ⌜ r ≡ joins (now (targets .entry)) (now (costs .entry)) (now (front .entry)) (now (next .entry)) states ⌝ }
+{
+    let at = v.0 as usize;
+    let q = support(states, targets, costs, front, next, State(hints[at]));
+    hints[at] = q.0;
+    (q.0 as usize) < states
+}
+
+// A mask with a value more, if it is kept.
+pub fn marked(kept: Mask, v: Value, on: bool) -> Mask
+    ensures { λ r. ⌜ r .0 ≡ maskOf (λ u. bit (kept .0) u || (on && eqb u (v .0))) width ⌝ }
+{
+    if on { kept.put(v) } else { kept }
+}
+
+// A cost, one more than the top where it leaves no room.
+pub fn strike(cost: u32, room: u32) -> u32
+    ensures { λ r. ⌜ r ≡ struck cost room ⌝ }
+{
+    if cost < room { cost } else { TOP + 1 }
+}
+
+// The front one place on.
+pub fn settle(states: usize, onward: &[u32], next: &[u32], front: &mut [u32])
+    requires { ⌜ (states ≤ length (now onward)) × (states ≤ length (now next)) × (states ≤ length (now front)) ⌝ }
+    ensures { λ _. ⌜ Filled (λ q. struck (getD (now (onward .entry)) q 0) (getD (now (next .entry)) q 0)) states (now (front .entry)) (now (front .exit)) ⌝ }
+{
+    let mut q: usize = 0;
+    while q < states {
+        front[q] = strike(onward[q], next[q]);
+        q += 1;
+    }
+}
+
+// The least cost of a front.
+pub fn cheapest(states: usize, front: &[u32]) -> u32
+    requires { ⌜ states ≤ length (now front) ⌝ }
+    ensures { λ r. ⌜ r ≡ lowest (now (front .entry)) states ⌝ }
+{
+    let mut least = TOP + 1;
+    let mut q: usize = 0;
+    while q < states {
+        least = rows::lesser(front[q], least);
+        q += 1;
+    }
+    least
+}
+
+// The looks at the values of a mask: the least costs one place on, and the mask of the values that are kept.
+pub fn sweep(
+    states: usize,
+    values: usize,
+    targets: &[u8],
+    costs: &[u16],
+    mask: Mask,
+    front: &[u32],
+    next: &[u32],
+    onward: &mut [u32],
+    hints: &mut [u8],
+) -> Mask
+    requires { ⌜ (states ≤ mostStates) × (values ≤ mostValues) × (length (now targets) ≡ tableSize) × (length (now costs) ≡ tableSize) × (states ≤ length (now front)) × (length (now next) ≡ 256) × (length (now onward) ≡ 256) × (length (now hints) ≡ mostValues) × Low states (now front) ⌝ }
+    ensures { λ r. ⌜ Swept (turned (now (targets .entry)) (now (costs .entry))) states (choices values (mask .0)) (now (front .entry)) (now (next .entry)) (now (onward .entry)) (now (onward .exit)) (r .0) ⌝ }
+{
+    let mut kept: u16 = 0;
+    let mut v: u8 = 0;
+    while (v as usize) < values {
+        if mask.has(Value(v)) {
+            let at = (v as usize) * bounds::MOST_STATES;
+            let end = at + bounds::MOST_STATES;
+            let on = supported(
+                states,
+                &targets[at..end],
+                &costs[at..end],
+                front,
+                next,
+                Value(v),
+                hints,
+            );
+            kept = marked(Mask(kept), Value(v), on).0;
+            push(states, &targets[at..end], &costs[at..end], front, onward);
+        }
+        v += 1;
+    }
+    Mask(kept)
+}
+
+// The front before the first place: the start alone, at the cost already spent, if a roster goes on from there.
+pub fn open_front(states: usize, start: State, spent: u32, room: u32, front: &mut [u32])
+    requires { ⌜ (start .0 < states) × (states ≤ length (now front)) ⌝ }
+    ensures { λ _. ⌜ Opened states (start .0) spent room (now (front .exit)) ⌝ }
+{
+    rows::blank(states, TOP + 1, front);
+    front[start.0 as usize] = strike(spent, room);
+}
+
+// One place: gives its kept mask, and moves the front one place on.
+pub fn step(
+    states: usize,
+    values: usize,
+    targets: &[u8],
+    costs: &[u16],
+    mask: Mask,
+    row: &[u32],
+    front: &mut [u32],
+    next: &mut [u32],
+    onward: &mut [u32],
+    hints: &mut [u8],
+) -> Mask
+    requires { ⌜ (states ≤ mostStates) × (values ≤ mostValues) × (length (now targets) ≡ tableSize) × (length (now costs) ≡ tableSize) × (states ≤ length (now row)) × (states ≤ length (now front)) × (length (now next) ≡ 256) × (length (now onward) ≡ 256) × (length (now hints) ≡ mostValues) × Low states (now front) ⌝ }
+    ensures { λ r. ⌜ Stepped (turned (now (targets .entry)) (now (costs .entry))) states (choices values (mask .0)) (now (row .entry)) (now (front .entry)) (now (next .entry)) (now (onward .entry)) (now (front .exit)) (now (next .exit)) (now (onward .exit)) (r .0) ⌝ }
+{
+    rows::copy(states, row, next);
+    let kept = sweep(
+        states,
+        values,
+        targets,
+        costs,
+        mask,
+        front,
+        next,
+        onward,
+        hints,
+    );
+    settle(states, onward, next, front);
+    rows::blank(states, TOP + 1, onward);
+    kept
+}
+
+// The forward pass: writes the kept masks, and gives the least cost, one more than the top where no roster is allowed.
+pub fn pass(
+    states: usize,
+    values: usize,
+    targets: &[u8],
+    costs: &[u16],
+    start: State,
+    spent: u32,
+    masks: &[u16],
+    work: &[u32],
+    front: &mut [u32],
+    next: &mut [u32],
+    onward: &mut [u32],
+    hints: &mut [u8],
+    kept: &mut [u16],
+) -> u32
+    requires { ⌜ Ready states values (now targets) (now costs) (now masks) (now masks) (now work) × LowRows states (length (now masks)) (now work) × (start .0 < states) × (spent ≤ top) × (length (now front) ≡ mostStates) × (length (now next) ≡ 256) × (length (now onward) ≡ 256) × (length (now hints) ≡ mostValues) × (length (now kept) ≡ length (now masks)) × Loaded (λ t. getD (now next) t 0) states (now next) ⌝ }
+    ensures { λ r. ⌜ Tells (turned (now (targets .entry)) (now (costs .entry))) states values (start .0) spent (now (masks .entry)) (now (work .entry)) (now (kept .exit)) r ⌝ }
+{
+    open_front(states, start, spent, work[start.0 as usize], front);
+    rows::blank(states, TOP + 1, onward);
+    let mut i: usize = 0;
+    while i < masks.len() {
+        let mask = Mask(masks[i]);
+        let at = (i + 1) * bounds::MOST_STATES;
+        let end = at + bounds::MOST_STATES;
+        kept[i] = step(
+            states,
+            values,
+            targets,
+            costs,
+            mask,
+            &work[at..end],
+            front,
+            next,
+            onward,
+            hints,
+        ).0;
+        i += 1;
+    }
+    cheapest(states, front)
+}

@@ -1,0 +1,5 @@
+pub mod Rooms
+pub mod Filling
+pub mod Raising
+pub mod Turning
+pub mod Layering

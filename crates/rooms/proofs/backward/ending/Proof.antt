@@ -1,0 +1,17 @@
+use mathlib.Core.Bool.{Bool}
+use Rattle.rooms.proofs.Rooms.{bit-yes, bit-no}
+use borrow.Author.Needs.{needs}
+use Rattle.rooms.proofs.backward.ending.Statement.{statement}
+use Rattle.rooms.proofs.backward.ending.Tie as tie
+
+shr-if1 : tie.Need-shr-if1
+shr-if1 c = search needs
+
+returns : tie.Need-returns
+returns c = rw (bit-yes _ _ (c .if1 .taken))
+
+returns-2 : tie.Need-returns-2
+returns-2 c = rw (bit-no _ _ (c .if1 .left))
+
+pub ending-spec : {M : Type 1} → statement M
+ending-spec = tie.close (tie.spec shr-if1 returns returns-2)

@@ -1,0 +1,91 @@
+use Prim.Native.Nat.{ℕ, _≤_, _-_}
+use mathlib.Core.Path.{_≡_, refl}
+use lib.ListN.{length, length-set}
+use Rattle.rules.specs.Meaning.{arcsOf, target, cost}
+use Rattle.rules.proofs.Checks.{arc-place}
+use Rattle.rooms.specs.Tables.{Filled}
+use Rattle.rooms.proofs.Filling.{filled-none, filled-more, filled-end}
+use borrow.Author.Needs.{needs}
+use native.Mathlib.Omega.{arith}
+use Rattle.rooms.proofs.turn.turn_value.Statement.{statement}
+use Rattle.rooms.proofs.turn.turn_value.Tie as tie
+
+abbrev Inv-loop : tie.InvT-loop
+Inv-loop states values targets costs v to₀ fee₀ q₀ to fee q = (q ≤ states) × (length to ≡ length to₀) × (length fee ≡ length fee₀)
+    × Filled (λ (k : ℕ). target (arcsOf states values targets costs) k (v .0)) q to₀ to × Filled (λ (k : ℕ). cost (arcsOf states values targets costs) k (v .0)) q fee₀ fee
+
+abbrev μ-loop : tie.MeasureT-loop
+μ-loop states values targets costs v to₀ fee₀ q₀ to fee q = states - q
+
+loop-holds : tie.Need-loop-holds Inv-loop μ-loop
+loop-holds c = (omega arith, refl, refl, filled-none _ _, filled-none _ _)
+
+mul-at : tie.Need-mul-at Inv-loop μ-loop
+mul-at c = omega (arith, arc-place {q = c .before .loop .q} {v = c .before .before .args .values} {u = c .before .before .args .v .0} (omega arith) (omega arith) (omega arith))
+
+cast-at : tie.Need-cast-at Inv-loop μ-loop
+cast-at c = search needs
+
+add-at : tie.Need-add-at Inv-loop μ-loop
+add-at c = omega (arith, arc-place {q = c .before .before .loop .q} {v = c .before .before .before .args .values} {u = c .before .before .before .args .v .0} (omega arith) (omega arith) (omega arith))
+
+shared-slice-read-to : tie.Need-shared-slice-read-to Inv-loop μ-loop
+shared-slice-read-to c = omega (arith, arc-place {q = c .before .before .before .loop .q} {v = c .before .before .before .before .args .values} {u = c .before .before .before .before .args .v .0} (omega arith) (omega arith) (omega arith))
+
+slice-write-to : tie.Need-slice-write-to Inv-loop μ-loop
+slice-write-to c = search needs
+
+mul-fee : tie.Need-mul-fee Inv-loop μ-loop
+mul-fee c = omega (arith, arc-place {q = c .before .before .before .loop .q} {v = c .before .before .before .before .args .values} {u = c .before .before .before .before .args .v .0} (omega arith) (omega arith) (omega arith))
+
+shared-slice-read-fee : tie.Need-shared-slice-read-fee Inv-loop μ-loop
+shared-slice-read-fee c = omega (arith, arc-place {q = c .before .before .before .before .loop .q} {v = c .before .before .before .before .before .args .values} {u = c .before .before .before .before .before .args .v .0} (omega arith) (omega arith) (omega arith))
+
+mul-fee-2 : tie.Need-mul-fee-2 Inv-loop μ-loop
+mul-fee-2 c = search needs
+
+slice-write-fee : tie.Need-slice-write-fee Inv-loop μ-loop
+slice-write-fee c = search needs
+
+add-q : tie.Need-add-q Inv-loop μ-loop
+add-q c = search needs
+
+loop-less : tie.Need-loop-less Inv-loop μ-loop
+loop-less c = search needs
+
+loop-again : tie.Need-loop-again Inv-loop μ-loop
+loop-again c = let l = c .before .before .before .before .loop .inv in
+    (omega arith, simp length-set (l .1), simp length-set (l .2), filled-more _ (omega arith) (l .3) refl, filled-more _ (omega arith) (l .4) refl)
+
+same-length : tie.Need-same-length Inv-loop μ-loop
+same-length c = c .before .loop .inv .1
+
+same-length-2 : tie.Need-same-length-2 Inv-loop μ-loop
+same-length-2 c = c .before .loop .inv .2
+
+returns : tie.Need-returns Inv-loop μ-loop
+returns c = let l = c .before .loop .inv in
+    (filled-end (l .3) (l .0) (c .loop-test .left), filled-end (l .4) (l .0) (c .loop-test .left))
+
+pub turn-value-spec : {M : Type 1} → statement M
+turn-value-spec =
+    tie.close
+    (tie.spec
+    Inv-loop
+    μ-loop
+    loop-holds
+    mul-at
+    cast-at
+    add-at
+    shared-slice-read-to
+    slice-write-to
+    mul-fee
+    shared-slice-read-fee
+    mul-fee-2
+    slice-write-fee
+    add-q
+    loop-less
+    loop-again
+    same-length
+    same-length-2
+    returns)

@@ -1,0 +1,100 @@
+-- The backward table, as functions. Inner: no public contract cites this file; proofs/ shows what the table means.
+use mathlib.Core.Bool.{cond, _&&_}
+use mathlib.Core.List.{List, [], _∷_}
+use mathlib.Core.Path.{_≡_}
+use Prim.Native.Nat.{ℕ, zero, suc, _+_, _*_, _-_, _≤_, _<_, min, max}
+use lib.Dec.{ltb}
+use lib.ListN.{length, getD, drop}
+use Rattle.kinds.specs.Bits.{bit}
+use Rattle.rules.specs.Bounds.{mostPlaces, mostStates, mostValues, tableSize, workSize, top}
+use Rattle.rules.specs.Lists.{those}
+use Rattle.rules.specs.Meaning.{Arcs, Rules, target, cost, Place, places}
+
+-- n - 1, .., 1, 0
+unfoldable pub down : ℕ → List ℕ
+down zero = []
+down (suc n) = n ∷ down n
+
+-- the values below vs of a mask
+unfoldable pub choices : ℕ → ℕ → List ℕ
+choices vs m = those (bit m) (down vs)
+
+-- arcs as the passes read them: where a state's arc on a value leads, and its cost
+pub record Net : Type 0 where
+  pub to : ℕ → ℕ → ℕ
+  pub fee : ℕ → ℕ → ℕ
+
+-- the tables turned, so that the arcs on one value stand in one row
+unfoldable pub turned : List ℕ → List ℕ → Net
+turned ts cs = record { to = λ q v. getD ts (v * mostStates + q) 0; fee = λ q v. getD cs (v * mostStates + q) 0 }
+
+-- a net that has the arcs of a rule set on the values below vs
+pub record Same (a : Arcs) (vs : ℕ) (n : Net) : Type 0 where
+  pub to : (q v : ℕ) → q < a .states → v < vs → n .to q v ≡ target a q v
+  pub fee : (q v : ℕ) → q < a .states → v < vs → n .fee q v ≡ cost a q v
+
+-- a rule set with its arcs in a net
+pub record Frame : Type 0 where
+  pub net : Net
+  pub states : ℕ
+  pub values : ℕ
+  pub accepting : ℕ
+
+abbrev pub frame : Net → ℕ → ℕ → ℕ → Frame
+frame n q v a = record { net = n; states = q; values = v; accepting = a }
+
+abbrev pub framed : Net → Rules → Frame
+framed n r = frame n (r .arcs .states) (r .arcs .values) (r .accepting)
+
+-- a list that was filled up to n: f below n, what it was from n on
+pub record Filled (f : ℕ → ℕ) (n : ℕ) (was is : List ℕ) : Type 0 where
+  pub done : (k : ℕ) → k < n → getD is k 0 ≡ f k
+  pub left : (k : ℕ) → n ≤ k → getD is k 0 ≡ getD was k 0
+
+-- BACKWARD. The room of a state: one more than the greatest cost already spent at which some roster goes on from there, 0 where none
+-- does. The best that some values leave, where `next` has the rooms one place on:
+unfoldable pub best : Net → (ℕ → ℕ) → ℕ → List ℕ → ℕ
+best a next q [] = 0
+best a next q (v ∷ vs) = max (next (a .to q v) - a .fee q v) (best a next q vs)
+
+-- a room as the step into it has it, with that step's limit
+abbrev pub capped : ℕ → ℕ → ℕ
+capped l room = min (suc (min l top)) room
+
+unfoldable pub room : Frame → List Place → ℕ → ℕ
+room f [] q = cond (ltb q (f .states) && bit (f .accepting) q) (suc top) 0
+room f (p ∷ ps) q = cond (ltb q (f .states)) (best (f .net) (λ t. capped (p .limit) (room f ps t)) q (choices (f .values) (p .mask))) 0
+
+-- the limit of the step into layer i; no step leads into layer 0
+abbrev pub before : List ℕ → ℕ → ℕ
+before ls zero = top
+before ls (suc i) = getD ls i 0
+
+-- layer i of the backward table
+unfoldable pub layer : Frame → List ℕ → List ℕ → ℕ → ℕ → ℕ
+layer f ms ls i q = capped (before ls i) (room f (drop i (places ms ls)) q)
+
+-- the rows of the work table, from layer i on
+pub record Layers (f : Frame) (ms ls : List ℕ) (i : ℕ) (work : List ℕ) : Type 0 where
+  pub right : (j q : ℕ) → i ≤ j → j ≤ length ms → q < f .states → getD work (j * mostStates + q) 0 ≡ layer f ms ls j q
+
+-- one row laid at layer i, with what stands behind it as it was
+pub record Laid (g : ℕ → ℕ) (n i : ℕ) (was is : List ℕ) : Type 0 where
+  pub row : (q : ℕ) → q < n → getD is (i * mostStates + q) 0 ≡ g q
+  pub behind : (k : ℕ) → i * mostStates + mostStates ≤ k → getD is k 0 ≡ getD was k 0
+
+-- a row by itself, with room for every target byte: no room at what is no state
+pub record Loaded (g : ℕ → ℕ) (n : ℕ) (next : List ℕ) : Type 0 where
+  pub done : (k : ℕ) → k < n → getD next k 0 ≡ g k
+  pub none : (k : ℕ) → n ≤ k → getD next k 0 ≡ 0
+
+-- what the passes are lent, in its sizes
+pub record Ready (qs vs : ℕ) (ts cs ms ls work : List ℕ) : Type 0 where
+  pub few-states : qs ≤ mostStates
+  pub few-values : vs ≤ mostValues
+  pub all-targets : length ts ≡ tableSize
+  pub all-costs : length cs ≡ tableSize
+  pub some-places : 1 ≤ length ms
+  pub few-places : length ms ≤ mostPlaces
+  pub all-limits : length ls ≡ length ms
+  pub all-work : length work ≡ workSize (length ms)

@@ -1,0 +1,180 @@
+// The backward pass: the rooms of all layers, each behind the limit of the step into it.
+ghost use mathlib.Core.Path.{_≡_};
+ghost use mathlib.Core.Bool.{cond};
+ghost use Prim.Native.Nat.{suc, _+_, _*_, _-_, _≤_, _<_, min, max};
+ghost use lib.ListN.{length, getD};
+ghost use Rattle.kinds.specs.Bits.{bit};
+ghost use Rattle.rules.specs.Bounds.{mostPlaces, mostStates, mostValues, tableSize, top};
+ghost use Rattle.rooms.specs.Tables.{Filled, turned, choices, best, before, frame, layer, Layers, Laid, Loaded, Ready};
+use crate::rows;
+use kinds::Mask;
+use kinds::Value;
+use rules::bounds;
+
+// No running cost passes this.
+pub const TOP: u32 = (bounds::MOST_PLACES as u32) * (bounds::MOST_COST as u32);
+
+// The room after the last place.
+pub fn ending(accepting: u64, cap: u32, q: usize) -> u32
+    requires { ⌜ q < mostStates ⌝ }
+    ensures { λ r. ⌜ r ≡ cond (bit accepting q) cap 0 ⌝ }
+{
+    if (accepting >> q) & 1 == 1 { cap } else { 0 }
+}
+
+// The row of the last layer.
+pub fn ends(states: usize, accepting: u64, cap: u32, row: &mut [u32])
+    requires { ⌜ (states ≤ mostStates) × (states ≤ length (now row)) ⌝ }
+    ensures { λ _. ⌜ Filled (λ q. cond (bit accepting q) cap 0) states (now (row .entry)) (now (row .exit)) ⌝ }
+{
+    let mut q: usize = 0;
+    while q < states {
+        row[q] = ending(accepting, cap, q);
+        q += 1;
+    }
+}
+
+// A row raised to what one value leaves.
+pub fn raise(states: usize, targets: &[u8], costs: &[u16], next: &[u32], row: &mut [u32])
+    requires { ⌜ (states ≤ length (now targets)) × (states ≤ length (now costs)) × (256 ≤ length (now next)) × (states ≤ length (now row)) ⌝ }
+    ensures { λ _. ⌜ Filled (λ q. max (getD (now (next .entry)) (getD (now (targets .entry)) q 0) 0 - getD (now (costs .entry)) q 0) (getD (now (row .entry)) q 0)) states (now (row .entry)) (now (row .exit)) ⌝ }
+{
+    let mut q: usize = 0;
+    while q < states {
+        let room = rows::less(next[targets[q] as usize], costs[q] as u32);
+        row[q] = rows::greater(room, row[q]);
+        q += 1;
+    }
+}
+
+// A row cut at the limit of the step into it.
+pub fn cut(states: usize, cap: u32, row: &mut [u32])
+    requires { ⌜ states ≤ length (now row) ⌝ }
+    ensures { λ _. ⌜ Filled (λ q. min cap (getD (now (row .entry)) q 0)) states (now (row .entry)) (now (row .exit)) ⌝ }
+{
+    let mut q: usize = 0;
+    while q < states {
+        row[q] = rows::lesser(cap, row[q]);
+        q += 1;
+    }
+}
+
+// The row of a layer, from the row of the next: the best that the mask's values leave, behind the limit of the step into it.
+pub fn fill_row(
+    states: usize,
+    values: usize,
+    targets: &[u8],
+    costs: &[u16],
+    mask: Mask,
+    cap: u32,
+    next: &[u32],
+    row: &mut [u32],
+)
+    requires { ⌜ (states ≤ mostStates) × (values ≤ mostValues) × (length (now targets) ≡ tableSize) × (length (now costs) ≡ tableSize) × (256 ≤ length (now next)) × (states ≤ length (now row)) ⌝ }
+    ensures { λ _. ⌜ Filled (λ q. min cap (best (turned (now (targets .entry)) (now (costs .entry))) (λ t. getD (now (next .entry)) t 0) q (choices values (mask .0)))) states (now (row .entry)) (now (row .exit)) ⌝ }
+{
+    rows::blank(states, 0, row);
+    let mut v: u8 = 0;
+    while (v as usize) < values {
+        if mask.has(Value(v)) {
+            let at = (v as usize) * bounds::MOST_STATES;
+            let end = at + bounds::MOST_STATES;
+            raise(states, &targets[at..end], &costs[at..end], next, row);
+        }
+        v += 1;
+    }
+    cut(states, cap, row);
+}
+
+// One more than the limit of the step into layer i, 366,000 at most.
+pub fn cap_at(limits: &[u32], i: usize) -> u32
+    requires { ⌜ i ≤ length (now limits) ⌝ }
+    ensures { λ r. ⌜ r ≡ suc (min (before (now (limits .entry)) i) top) ⌝ }
+{
+    if i == 0 {
+        return TOP + 1;
+    }
+    rows::lesser(limits[i - 1], TOP) + 1
+}
+
+// The row of layer i, laid in the work table and loaded by itself.
+pub fn fill_layer(
+    states: usize,
+    values: usize,
+    targets: &[u8],
+    costs: &[u16],
+    mask: Mask,
+    cap: u32,
+    i: usize,
+    next: &mut [u32],
+    work: &mut [u32],
+)
+    requires { ⌜ (states ≤ mostStates) × (values ≤ mostValues) × (length (now targets) ≡ tableSize) × (length (now costs) ≡ tableSize) × (length (now next) ≡ 256) × (i ≤ mostPlaces) × (i * mostStates + mostStates ≤ length (now work)) ⌝ }
+    ensures { λ _. ⌜ Laid (λ q. min cap (best (turned (now (targets .entry)) (now (costs .entry))) (λ t. getD (now (next .entry)) t 0) q (choices values (mask .0)))) states i (now (work .entry)) (now (work .exit)) × Filled (λ q. min cap (best (turned (now (targets .entry)) (now (costs .entry))) (λ t. getD (now (next .entry)) t 0) q (choices values (mask .0)))) states (now (next .entry)) (now (next .exit)) ⌝ }
+{
+    let at = i * bounds::MOST_STATES;
+    let end = at + bounds::MOST_STATES;
+    fill_row(
+        states,
+        values,
+        targets,
+        costs,
+        mask,
+        cap,
+        next,
+        &mut work[at..end],
+    );
+    rows::copy(states, &work[at..end], next);
+}
+
+// The row of the last layer, likewise.
+pub fn fill_last(
+    states: usize,
+    accepting: u64,
+    cap: u32,
+    i: usize,
+    next: &mut [u32],
+    work: &mut [u32],
+)
+    requires { ⌜ (states ≤ mostStates) × (length (now next) ≡ 256) × (i ≤ mostPlaces) × (i * mostStates + mostStates ≤ length (now work)) ⌝ }
+    ensures { λ _. ⌜ Laid (λ q. cond (bit accepting q) cap 0) states i (now (work .entry)) (now (work .exit)) × Filled (λ q. cond (bit accepting q) cap 0) states (now (next .entry)) (now (next .exit)) ⌝ }
+{
+    let at = i * bounds::MOST_STATES;
+    let end = at + bounds::MOST_STATES;
+    ends(states, accepting, cap, &mut work[at..end]);
+    rows::copy(states, &work[at..end], next);
+}
+
+// The rows of all layers, the last first.
+pub fn fill_rooms(
+    states: usize,
+    values: usize,
+    targets: &[u8],
+    costs: &[u16],
+    accepting: u64,
+    masks: &[u16],
+    limits: &[u32],
+    next: &mut [u32],
+    work: &mut [u32],
+)
+    requires { ⌜ Ready states values (now targets) (now costs) (now masks) (now limits) (now work) × (length (now next) ≡ 256) × Loaded (λ t. 0) states (now next) ⌝ }
+    ensures { λ _. ⌜ Layers (frame (turned (now (targets .entry)) (now (costs .entry))) states values accepting) (now (masks .entry)) (now (limits .entry)) 0 (now (work .exit)) × Loaded (layer (frame (turned (now (targets .entry)) (now (costs .entry))) states values accepting) (now (masks .entry)) (now (limits .entry)) 0) states (now (next .exit)) ⌝ }
+{
+    let mut i = masks.len();
+    fill_last(states, accepting, cap_at(limits, i), i, next, work);
+    while 0 < i {
+        i -= 1;
+        let cap = cap_at(limits, i);
+        fill_layer(
+            states,
+            values,
+            targets,
+            costs,
+            Mask(masks[i]),
+            cap,
+            i,
+            next,
+            work,
+        );
+    }
+}

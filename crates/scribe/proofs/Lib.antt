@@ -1,0 +1,6 @@
+pub mod Lengths
+pub mod Longest
+pub mod Puts
+pub mod Outcomes
+pub mod Unique
+pub mod RoundTrip

@@ -1,0 +1,9 @@
+pub mod Below
+pub mod Texts
+pub mod Tables
+pub mod Filled
+pub mod OneText
+pub mod Judging
+pub mod Taking
+pub mod Outcomes
+pub mod Unique

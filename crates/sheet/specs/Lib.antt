@@ -1,0 +1,4 @@
+pub mod Lines
+pub mod Sheets
+pub mod Reading
+pub mod Inner

@@ -1,0 +1,62 @@
+// The reader of sheets.
+ghost use mathlib.Core.Path.{_≡_};
+ghost use Rattle.rules.specs.Answers.{numberOf};
+ghost use Rattle.sheet.specs.Reading.{readLeft, readOf};
+ghost use Rattle.sheet.specs.Inner.{refusal};
+
+mod lines;
+mod take;
+
+use crate::take::Taken;
+use crate::take::clear;
+use crate::take::take_sheet;
+use kinds::State;
+use rules::Answer;
+use rules::Size;
+
+// What reading answers: under 0 the size and the accepting mask, under 5 the first wrong line.
+pub struct Read {
+    pub answer: Answer,
+    pub line: usize,
+    pub size: Size,
+    pub accepting: u64,
+}
+
+// A refusal.
+fn refused(answer: Answer, line: usize) -> Read
+    ensures { λ r. ⌜ r ≡ refusal answer line ⌝ }
+{
+    Read {
+        answer,
+        line,
+        size: Size {
+            states: 0,
+            values: 0,
+            start: State(0),
+        },
+        accepting: 0,
+    }
+}
+
+// Reads a sheet into full tables. Judged whole, with no room in the tables, before anything is written.
+pub fn read_sheet(text: &[u8], targets: &mut [u8], costs: &mut [u16]) -> Read
+    ensures { λ r. ⌜ readLeft (numberOf (r .answer)) (r .line) (r .size .states) (r .size .values) (r .size .start .0) (r .accepting) (now (targets .exit)) (now (costs .exit)) ≡ readOf (now (text .entry)) (now (targets .entry)) (now (costs .entry)) ⌝ }
+{
+    if !rules::tables_long(targets, costs) {
+        return refused(Answer::WrongLength, 0);
+    }
+    let judged = take_sheet(text, &mut targets[..0], &mut costs[..0]);
+    match judged {
+        Taken::Wrong(line, _) => refused(Answer::WrongSheet, line),
+        Taken::Right(size, accepting) => {
+            clear(targets, costs, size.states * size.values);
+            take_sheet(text, targets, costs);
+            Read {
+                answer: Answer::Done,
+                line: 0,
+                size,
+                accepting,
+            }
+        }
+    }
+}

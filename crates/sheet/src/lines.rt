@@ -1,0 +1,145 @@
+// The lines of a sheet, each judged by itself.
+ghost use mathlib.Core.Path.{_≡_};
+ghost use Prim.Native.Nat.{_≤_};
+ghost use lib.ListN.{length, drop};
+ghost use Rattle.sheet.specs.Lines.{readSize, readFinal, readArc, readLine};
+ghost use Rattle.sheet.specs.Inner.{Sized, topView, rowView, rowNext};
+use kinds::State;
+use kinds::Value;
+use rules::Size;
+use rules::bounds;
+use text::bytes::begins;
+use text::lines::End;
+use text::lines::Fault;
+use text::lines::close_at;
+use text::lines::fault_of;
+use text::numbers::Number;
+use text::numbers::field_at;
+use text::numbers::number_at;
+
+// Line 1.
+pub(crate) enum Top {
+    Right(Size),
+    Wrong(Fault),
+}
+
+// A line after the first.
+pub(crate) enum Row {
+    Final(State),
+    Arc(State, Value, State, u16),
+    Wrong(Fault),
+}
+
+// The size line.
+pub(crate) fn size_line(line: &[u8]) -> Top
+    ensures { λ r. ⌜ topView r ≡ readSize (now (line .entry)) ⌝ }
+{
+    if !begins(line, b"size\t") {
+        return Top::Wrong(Fault::Form);
+    }
+    let a = field_at(line, 5, 1, bounds::MOST_STATES as u32);
+    let Number::Value(states, at) = a else {
+        return Top::Wrong(fault_of(a));
+    };
+    let b = field_at(line, at, 1, bounds::MOST_VALUES as u32);
+    let Number::Value(values, at2) = b else {
+        return Top::Wrong(fault_of(b));
+    };
+    let c = number_at(line, at2, 0, states - 1);
+    let Number::Value(start, end) = c else {
+        return Top::Wrong(fault_of(c));
+    };
+    let e = close_at(line, end, true);
+    match e {
+        End::Fine => Top::Right(Size {
+            states: states as usize,
+            values: values as usize,
+            start: State(start as u8),
+        }),
+        End::Faulty(f) => Top::Wrong(f),
+    }
+}
+
+// A final line, past its word, where `next` is the first free place of the order.
+pub(crate) fn final_line(line: &[u8], size: Size, next: usize) -> Row
+    requires { ⌜ (6 ≤ length (now line)) × Sized size ⌝ }
+    ensures { λ r. ⌜ rowView r ≡ readFinal size next (drop 6 (now (line .entry))) ⌝ }
+{
+    let states = size.states;
+    let n = number_at(line, 6, 0, (states - 1) as u32);
+    let Number::Value(q, end) = n else {
+        return Row::Wrong(fault_of(n));
+    };
+    let e = close_at(line, end, next <= q as usize);
+    match e {
+        End::Fine => Row::Final(State(q as u8)),
+        End::Faulty(f) => Row::Wrong(f),
+    }
+}
+
+// An arc line, past its word.
+pub(crate) fn arc_line(line: &[u8], size: Size, next: usize) -> Row
+    requires { ⌜ (4 ≤ length (now line)) × Sized size ⌝ }
+    ensures { λ r. ⌜ rowView r ≡ readArc size next (drop 4 (now (line .entry))) ⌝ }
+{
+    let states = size.states;
+    let values = size.values;
+    let a = field_at(line, 4, 0, (states - 1) as u32);
+    let Number::Value(q, at) = a else {
+        return Row::Wrong(fault_of(a));
+    };
+    let b = field_at(line, at, 0, (values - 1) as u32);
+    let Number::Value(v, at2) = b else {
+        return Row::Wrong(fault_of(b));
+    };
+    let c = field_at(line, at2, 0, (states - 1) as u32);
+    let Number::Value(target, at3) = c else {
+        return Row::Wrong(fault_of(c));
+    };
+    let n = number_at(line, at3, 0, bounds::MOST_COST as u32);
+    let Number::Value(cost, end) = n else {
+        return Row::Wrong(fault_of(n));
+    };
+    let e = close_at(
+        line,
+        end,
+        next <= states + (q as usize * values + v as usize),
+    );
+    match e {
+        End::Fine => Row::Arc(
+            State(q as u8),
+            Value(v as u8),
+            State(target as u8),
+            cost as u16,
+        ),
+        End::Faulty(f) => Row::Wrong(f),
+    }
+}
+
+// A line after the first.
+pub(crate) fn row_of(line: &[u8], size: Size, next: usize) -> Row
+    requires { ⌜ Sized size ⌝ }
+    ensures { λ r. ⌜ rowView r ≡ readLine size next (now (line .entry)) ⌝ }
+{
+    if begins(line, b"final\t") {
+        return final_line(line, size, next);
+    }
+    if begins(line, b"arc\t") {
+        return arc_line(line, size, next);
+    }
+    Row::Wrong(Fault::Form)
+}
+
+// The first free place of the order after a row.
+pub(crate) fn after_row(size: Size, row: Row) -> usize
+    requires { ⌜ Sized size ⌝ }
+    ensures { λ r. ⌜ r ≡ rowNext size row ⌝ }
+{
+    let states = size.states;
+    let values = size.values;
+    match row {
+        Row::Final(q) => q.0 as usize + 1,
+        Row::Arc(q, v, _, _) => states + (q.0 as usize * values + v.0 as usize) + 1,
+        Row::Wrong(_) => 0,
+    }
+}

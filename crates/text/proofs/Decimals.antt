@@ -1,0 +1,254 @@
+-- Laws of decimal numbers: a number's digits read back as the number, and what reads as a number is its digits. Assumes nothing.
+use mathlib.Core.Path.{_≡_, refl, ap, sym, _∙_}
+use mathlib.Core.Bool.{Bool, true, false, cond, not, _&&_, _||_, false≢true}
+use mathlib.Core.List.{List, [], _∷_, _++_, append-assoc, append-nil}
+use Prim.Native.Nat.{ℕ, zero, suc, _+_, _-_, _*_, _/_, _%_, _≤_, _<_}
+use native.Mathlib.Omega.{arith}
+use native.Mathlib.Decide.{decLt}
+use lib.Dec.{leb, eqb}
+use borrow.Author.Tests.{lt-ltb, le-ltb, le-leb, lt-leb, eq-eqb, ne-eqb, leb-true, eqb-true}
+use Rattle.rules.proofs.Checks.{both}
+use Rattle.text.specs.Bytes.{tab, nought, isDigit}
+use Rattle.text.specs.Numbers.{decimalIn, decimal, digits, past, value, plain, fieldEnd, Field, number, malformed, outside, readNumber, tabbed, readField}
+use Rattle.rules.proofs.Checks.{never}
+
+within-small : (f n : ℕ) → n < 10 → decimalIn f n ≡ (nought + n) ∷ []
+unfolding decimalIn
+within-small zero n h = refl
+within-small (suc f) n h = rw (lt-ltb n 10 h, decimalIn)
+
+within-step : (f n : ℕ) → 10 ≤ n → decimalIn (suc f) n ≡ decimalIn f (n / 10) ++ (nought + n % 10) ∷ []
+unfolding decimalIn
+within-step f n h = rw (le-ltb n 10 h, decimalIn)
+
+fuel : (f g n : ℕ) → n ≤ f → n ≤ g → decimalIn f n ≡ decimalIn g n
+fuel zero g n hf hg = within-small zero n (omega arith) ∙ sym (within-small g n (omega arith))
+fuel (suc f) zero n hf hg = within-small (suc f) n (omega arith) ∙ sym (within-small zero n (omega arith))
+fuel (suc f) (suc g) n hf hg = go (decLt n 10) (λ a b. fuel f g (n / 10) a b)
+  where
+    go : Dec (n < 10) → (n / 10 ≤ f → n / 10 ≤ g → decimalIn f (n / 10) ≡ decimalIn g (n / 10)) → decimalIn (suc f) n ≡ decimalIn (suc g) n
+    go (yes h) rec = within-small (suc f) n h ∙ sym (within-small (suc g) n h)
+    go (no h) rec = rw (within-step f n (omega arith), within-step g n (omega arith), rec (omega arith) (omega arith))
+
+-- one digit more
+pub decimal-small : (n : ℕ) → n < 10 → decimal n ≡ (nought + n) ∷ []
+unfolding decimal
+decimal-small n h = within-small n n h
+
+pub decimal-step : (n : ℕ) → 10 ≤ n → decimal n ≡ decimal (n / 10) ++ (nought + n % 10) ∷ []
+unfolding decimal
+decimal-step zero h = absurd (let z : suc 0 ≤ 0 = omega arith in omega arith)
+decimal-step (suc n) h = within-step n (suc n) h ∙ ap (λ (l : List ℕ). l ++ (nought + suc n % 10) ∷ []) (fuel n (suc n / 10) (suc n / 10) (omega arith) (omega arith))
+
+-- induction along the digits
+by-digits : (P : ℕ → Type 0) → ((n : ℕ) → n < 10 → P n) → ((n : ℕ) → 10 ≤ n → P (n / 10) → P n) → (f n : ℕ) → n ≤ f → P n
+by-digits P small step zero n h = small n (omega arith)
+by-digits P small step (suc f) n h = go (decLt n 10) (λ a. by-digits P small step f (n / 10) a)
+  where
+    go : Dec (n < 10) → (n / 10 ≤ f → P (n / 10)) → P n
+    go (yes l) rec = small n l
+    go (no l) rec = step n (omega arith) (rec (omega arith))
+
+value-append : (a : ℕ) (s t : List ℕ) → value a (s ++ t) ≡ value (value a s) t
+unfolding value
+value-append a [] t = refl
+value-append a (d ∷ s) t = value-append (a * 10 + (d - nought)) s t
+
+value-one : (a m : ℕ) → value a ((nought + m) ∷ []) ≡ a * 10 + m
+unfolding value
+value-one a m = omega arith
+
+pub value-decimal : (n : ℕ) → value 0 (decimal n) ≡ n
+value-decimal n = by-digits (λ (m : ℕ). value 0 (decimal m) ≡ m) small step n n (omega arith)
+  where
+    small : (m : ℕ) → m < 10 → value 0 (decimal m) ≡ m
+    small m h = rw (decimal-small m h, value-one) (omega arith)
+
+    step : (m : ℕ) → 10 ≤ m → value 0 (decimal (m / 10)) ≡ m / 10 → value 0 (decimal m) ≡ m
+    step m h e = rw (decimal-step m h, value-append, e, value-one) (omega arith)
+
+-- a list of digits
+abbrev pub AllDigits : List ℕ → Type 0
+AllDigits [] = Unit
+AllDigits (d ∷ ds) = (nought ≤ d) × (d ≤ 57) × AllDigits ds
+
+all-append : (s t : List ℕ) → AllDigits s → AllDigits t → AllDigits (s ++ t)
+all-append [] t hs ht = ht
+all-append (d ∷ s) t hs ht = (hs .0, hs .1, all-append s t (hs .2) ht)
+
+pub decimal-all : (n : ℕ) → AllDigits (decimal n)
+decimal-all n = by-digits (λ (m : ℕ). AllDigits (decimal m)) small step n n (omega arith)
+  where
+    small : (m : ℕ) → m < 10 → AllDigits (decimal m)
+    small m h = rw (decimal-small m h) (omega arith)
+
+    step : (m : ℕ) → 10 ≤ m → AllDigits (decimal (m / 10)) → AllDigits (decimal m)
+    step m h e = rw (decimal-step m h) (all-append (decimal (m / 10)) ((nought + m % 10) ∷ []) e (omega arith))
+
+-- the text begins with no digit
+abbrev pub NoDigit : List ℕ → Type 0
+NoDigit [] = Unit
+NoDigit (b ∷ s) = isDigit b ≡ false
+
+digit-is : (d : ℕ) → nought ≤ d → d ≤ 57 → isDigit d ≡ true
+digit-is d a b = rw (le-leb nought d a, le-leb d 57 b)
+
+pub digits-of : (ds r : List ℕ) → AllDigits ds → NoDigit r → digits (ds ++ r) ≡ ds
+unfolding digits
+digits-of [] [] h n = refl
+digits-of [] (b ∷ r) h n = rw n
+digits-of (d ∷ ds) r h n = rw (digit-is d (h .0) (h .1), digits-of ds r (h .2) n)
+
+pub past-of : (ds r : List ℕ) → AllDigits ds → NoDigit r → past (ds ++ r) ≡ r
+unfolding past
+past-of [] [] h n = refl
+past-of [] (b ∷ r) h n = rw n
+past-of (d ∷ ds) r h n = rw (digit-is d (h .0) (h .1)) (past-of ds r (h .2) n)
+
+-- the two parts make the whole, and the first is digits
+pub digits-past : (s : List ℕ) → digits s ++ past s ≡ s
+unfolding digits past
+digits-past [] = refl
+digits-past (b ∷ s) = go (isDigit b) refl (digits-past s)
+  where
+    go : (t : Bool) → isDigit b ≡ t → digits s ++ past s ≡ s → cond (isDigit b) (b ∷ digits s) [] ++ cond (isDigit b) (past s) (b ∷ s) ≡ b ∷ s
+    go true e h = rw e (ap (λ (l : List ℕ). b ∷ l) h)
+    go false e h = rw e
+
+digits-all : (s : List ℕ) → AllDigits (digits s)
+unfolding digits
+digits-all [] = tt
+digits-all (b ∷ s) = go (isDigit b) refl (digits-all s)
+  where
+    go : (t : Bool) → isDigit b ≡ t → AllDigits (digits s) → AllDigits (cond (isDigit b) (b ∷ digits s) [])
+    go true e h =
+        let w : (leb nought b ≡ true) × (leb b 57 ≡ true) = both (leb nought b) (leb b 57) e in
+        rw e (leb-true nought b (w .0), leb-true b 57 (w .1), h)
+    go false e h = rw e tt
+
+-- a first digit that is not zero
+abbrev Lead : List ℕ → Type 0
+Lead [] = ⊥
+Lead (d ∷ ds) = d ≡ nought → ⊥
+
+lead-append : (s t : List ℕ) → Lead s → Lead (s ++ t)
+lead-append [] t h = absurd h
+lead-append (d ∷ s) t h = h
+
+decimal-lead : (n : ℕ) → 1 ≤ n → Lead (decimal n)
+decimal-lead n = by-digits (λ (m : ℕ). 1 ≤ m → Lead (decimal m)) small step n n (omega arith)
+  where
+    small : (m : ℕ) → m < 10 → 1 ≤ m → Lead (decimal m)
+    small m h l = rw (decimal-small m h) (omega arith)
+
+    step : (m : ℕ) → 10 ≤ m → (1 ≤ m / 10 → Lead (decimal (m / 10))) → 1 ≤ m → Lead (decimal m)
+    step m h e l = rw (decimal-step m h) (lead-append (decimal (m / 10)) _ (e (omega arith)))
+
+plain-lead : (ds : List ℕ) → Lead ds → plain ds ≡ true
+unfolding plain
+plain-lead [] h = absurd h
+plain-lead (d ∷ []) h = refl
+plain-lead (d ∷ e ∷ ds) h = rw (ne-eqb d nought h)
+
+plain-decimal : (n : ℕ) → plain (decimal n) ≡ true
+plain-decimal n = go (decLt n 1)
+  where
+    go : Dec (n < 1) → plain (decimal n) ≡ true
+    go (yes h) = rw (decimal-small n (omega arith)) (unfold plain in refl)
+    go (no h) = plain-lead (decimal n) (decimal-lead n (omega arith))
+
+decimal-value : (m : ℕ) (ds : List ℕ) → 1 ≤ m → AllDigits ds → decimal (value m ds) ≡ decimal m ++ ds
+unfolding value
+decimal-value m [] h a = sym (append-nil (decimal m))
+decimal-value m (d ∷ ds) h a =
+    decimal-value (m * 10 + (d - nought)) ds (omega arith) (a .2)
+    ∙ rw (decimal-step (m * 10 + (d - nought)) (omega arith), quot, rest, append-assoc)
+  where
+    quot : (m * 10 + (d - nought)) / 10 ≡ m
+    quot = let h1 : d ≤ 57 = a .1 in omega arith
+
+    rest : nought + (m * 10 + (d - nought)) % 10 ≡ d
+    rest = let h0 : nought ≤ d = a .0 in let h1 : d ≤ 57 = a .1 in omega arith
+
+decimal-plain : (ds : List ℕ) → plain ds ≡ true → AllDigits ds → decimal (value 0 ds) ≡ ds
+unfolding value plain
+decimal-plain [] p a = absurd (false≢true p)
+decimal-plain (d ∷ []) p a =
+    let h0 : nought ≤ d = a .0 in
+    let h1 : d ≤ 57 = a .1 in
+    let e : nought + (0 * 10 + (d - nought)) ≡ d = omega arith in
+    decimal-small (0 * 10 + (d - nought)) (omega arith) ∙ rw e
+decimal-plain (d ∷ e ∷ ds) p a =
+    let h0 : nought ≤ d = a .0 in
+    let h1 : d ≤ 57 = a .1 in
+    let n : d ≡ nought → ⊥ = λ q. absurd (false≢true (rw (eq-eqb d nought q) at p)) in
+    let x : nought + (0 * 10 + (d - nought)) ≡ d = omega arith in
+    decimal-value (0 * 10 + (d - nought)) (e ∷ ds) (omega arith) (a .2)
+    ∙ rw (decimal-small (0 * 10 + (d - nought)) (omega arith), x)
+
+pub or-cases : {A : Type 0} (a b : Bool) → (a || b) ≡ true → (a ≡ true → A) → (b ≡ true → A) → A
+or-cases true b e f g = f refl
+or-cases false b e f g = g e
+
+end-no-digit : (r : List ℕ) → fieldEnd r ≡ true → NoDigit r
+unfolding fieldEnd
+end-no-digit [] e = tt
+end-no-digit (b ∷ r) e =
+    or-cases (eqb b 9) (eqb b 10) e
+    (λ q. let h : b ≡ 9 = eqb-true b 9 q in rw (lt-leb nought b (omega arith)))
+    (λ q. let h : b ≡ 10 = eqb-true b 10 q in rw (lt-leb nought b (omega arith)))
+
+-- a number of the Range, written, reads as itself
+pub read-decimal : (lo hi n : ℕ) (r : List ℕ) → lo ≤ n → n ≤ hi → fieldEnd r ≡ true → readNumber lo hi (decimal n ++ r) ≡ number n r
+unfolding readNumber
+read-decimal lo hi n r l h e =
+    rw (digits-of (decimal n) r (decimal-all n) (end-no-digit r e), past-of (decimal n) r (decimal-all n) (end-no-digit r e), plain-decimal n, e, value-decimal n, le-leb lo n l, le-leb n hi h)
+
+-- what reads as a number is that number, written
+pub record Numbered (lo hi : ℕ) (s : List ℕ) (n : ℕ) (r : List ℕ) : Type 0 where
+  pub text : s ≡ decimal n ++ r
+  pub low : lo ≤ n
+  pub high : n ≤ hi
+  pub ends : fieldEnd r ≡ true
+
+pub number-read : (lo hi : ℕ) (s : List ℕ) (n : ℕ) (r : List ℕ) → readNumber lo hi s ≡ number n r → Numbered lo hi s n r
+unfolding readNumber
+number-read lo hi s n r e = go (plain (digits s) && fieldEnd (past s)) refl (leb lo (value 0 (digits s)) && leb (value 0 (digits s)) hi) refl
+  where
+    go : (t : Bool) → (plain (digits s) && fieldEnd (past s)) ≡ t → (u : Bool) → (leb lo (value 0 (digits s)) && leb (value 0 (digits s)) hi) ≡ u → Numbered lo hi s n r
+    go true p true q =
+        let w : number (value 0 (digits s)) (past s) ≡ number n r = rw (p, q) at e in
+        let v : value 0 (digits s) ≡ n = cc in
+        let x : past s ≡ r = cc in
+        let pe : (plain (digits s) ≡ true) × (fieldEnd (past s) ≡ true) = both _ _ p in
+        let qe : (leb lo (value 0 (digits s)) ≡ true) × (leb (value 0 (digits s)) hi ≡ true) = both _ _ q in
+        let d : decimal (value 0 (digits s)) ≡ digits s = decimal-plain (digits s) (pe .0) (digits-all s) in
+        record { text = sym (digits-past s) ∙ rw (← v, d, x); low = rw (← v) (leb-true _ _ (qe .0)); high = rw (← v) (leb-true _ _ (qe .1)); ends = rw (← x) (pe .1) }
+    go true p false q = let w : outside ≡ number n r = rw (p, q) at e in never cc
+    go false p u q = let w : malformed ≡ number n r = rw p at e in never cc
+
+-- a field that is not the last
+pub field-decimal : (lo hi n : ℕ) (r : List ℕ) → lo ≤ n → n ≤ hi → readField lo hi (decimal n ++ tab ∷ r) ≡ number n r
+unfolding tabbed fieldEnd
+field-decimal lo hi n r l h = rw (read-decimal lo hi n (tab ∷ r) l h refl)
+
+pub record Fielded (lo hi : ℕ) (s : List ℕ) (n : ℕ) (r : List ℕ) : Type 0 where
+  pub text : s ≡ decimal n ++ tab ∷ r
+  pub low : lo ≤ n
+  pub high : n ≤ hi
+
+tabbed-read : (x : Field) (n : ℕ) (r : List ℕ) → tabbed x ≡ number n r → x ≡ number n (tab ∷ r)
+unfolding tabbed
+tabbed-read (number m []) n r e = never cc
+tabbed-read (number m (b ∷ s)) n r e = go (eqb b tab) refl
+  where
+    go : (t : Bool) → eqb b tab ≡ t → number m (b ∷ s) ≡ number n (tab ∷ r)
+    go true h = let x : b ≡ tab = eqb-true b tab h in let y : number m s ≡ number n r = rw h at e in cc
+    go false h = let x : malformed ≡ number n r = rw h at e in never cc
+tabbed-read malformed n r e = never cc
+tabbed-read outside n r e = never cc
+
+pub field-read : (lo hi : ℕ) (s : List ℕ) (n : ℕ) (r : List ℕ) → readField lo hi s ≡ number n r → Fielded lo hi s n r
+field-read lo hi s n r e =
+    let h : Numbered lo hi s n (tab ∷ r) = number-read lo hi s n (tab ∷ r) (tabbed-read (readNumber lo hi s) n r e) in
+    record { text = h .text; low = h .low; high = h .high }

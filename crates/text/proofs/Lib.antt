@@ -1,0 +1,6 @@
+pub mod Decimals
+pub mod Scans
+pub mod Judging
+pub mod Cutting
+pub mod Putting
+pub mod Unique
