@@ -1,0 +1,159 @@
+-- The filter of what is held, one law for each step of the code. Assumes nothing.
+use mathlib.Core.Path.{_≡_, refl, sym, ap, ap₂, _∙_}
+use mathlib.Core.Bool.{Bool, true, _&&_}
+use mathlib.Core.List.{List, [], _∷_, _++_}
+use Prim.Native.Nat.{ℕ, zero, suc, _+_, _-_, _^_, _≤_}
+use native.Mathlib.Omega.{arith}
+use lib.Bits.{bitAnd, and-le-l}
+use lib.Dec.{ltb}
+use lib.ListN.{length, getD, drop, take, replicate, length-drop, length-replicate}
+use lib.Seq.{length-take-le}
+use lib.Pow.{pow-mono}
+use borrow.Author.Tests.{eq-eqb, lt-ltb, ltb-true}
+use Rattle.rules.specs.Bounds.{mostPlaces}
+use Rattle.rules.specs.Lists.{all}
+use Rattle.rules.specs.Meaning.{Place, place, places, Decision, Keep, Limit, change, decide, decides, Told, toldOf, told}
+use Rattle.rules.specs.Answers.{decided, zeros}
+use Rattle.rules.specs.Checks.{Handed, masksRight}
+use Rattle.rules.proofs.Checks.{both}
+use Rattle.filter.specs.Filter.{Left, left as filtered, lengthsRight, filterDone, filterOf}
+use Rattle.machine.specs.Room.{openingPlace, rowsSize, headSize, heldSize, shownSize, mostDecisions, mostMarks}
+use Rattle.machine.specs.Sessions.{Opening, opening, standing, placesBy, toldBy}
+use Rattle.machine.specs.Memory.{allBelow, countOf, rowsOf, entriesAt, entriesOf, openingAt, openingOf, heldIn, same, shownOf, toldHeld}
+use Rattle.machine.specs.Calls.{left, settledBy}
+use Rattle.machine.specs.Inner.{Held, Lent, Judged, RowsSafe}
+use Rattle.machine.proofs.Numbers.{and-both, below-more, masks-below, tail-is}
+use Rattle.machine.proofs.Ranges.{head-all, rows-safe}
+use Rattle.machine.proofs.Image.{held-head, held-room, held-masks, room-long, room-rows}
+
+-- decisions leave masks in range
+module _ (v : ℕ) where
+  abbrev inside : Place → Bool
+  inside p = ltb (p .mask) (2 ^ v)
+
+  places-inside : (ms ls : List ℕ) → length ms ≡ length ls → all inside (places ms ls) ≡ masksRight v ms
+  unfolding places masksRight
+  places-inside [] ls e = refl
+  places-inside (m ∷ ms) [] e = absurd (omega arith)
+  places-inside (m ∷ ms) (l ∷ ls) e = ap (λ (b : Bool). ltb m (2 ^ v) && b) (places-inside ms ls (omega arith))
+
+  change-inside : (f : Place → Place) → ((p : Place) → inside p ≡ true → inside (f p) ≡ true)
+      → (i : ℕ) (ps : List Place) → all inside ps ≡ true → all inside (change f i ps) ≡ true
+  change-inside f g i [] e = e
+  change-inside f g zero (p ∷ ps) e = let b = both (inside p) (all inside ps) e in and-both (inside (f p)) (all inside ps) (g p (b .0)) (b .1)
+  change-inside f g (suc i) (p ∷ ps) e =
+      let b = both (inside p) (all inside ps) e in and-both (inside p) (all inside (change f i ps)) (b .0) (change-inside f g i ps (b .1))
+
+  decides-inside : (ps : List Place) (ds : List Decision) → all inside ps ≡ true → all inside (decides ps ds) ≡ true
+  unfolding decide decides
+  decides-inside ps [] e = e
+  decides-inside ps (Keep i m ∷ ds) e =
+      decides-inside (decide ps (Keep i m)) ds
+      (change-inside (λ p. place (bitAnd (p .mask) m) (p .limit))
+      (λ p h. lt-ltb (bitAnd (p .mask) m) (2 ^ v) (omega (arith, and-le-l (p .mask) m, ltb-true (p .mask) (2 ^ v) h))) i ps e)
+  decides-inside ps (Limit i l ∷ ds) e =
+      decides-inside (decide ps (Limit i l)) ds (change-inside (λ p. place (p .mask) (_)) (λ p h. h) i ps e)
+
+-- reading what is held
+module _ (n q v start : ℕ) (l : List ℕ) (h : Held n q v start l) where
+  pub opening-long : length (take (length l - openingPlace) (drop openingPlace l)) ≡ n + n
+  opening-long = ap length (tail-is openingPlace l) ∙ simp length-drop (omega (arith, h .long))
+
+  pub opening-below : allBelow 65536 (take n (take (length l - openingPlace) (drop openingPlace l))) ≡ true
+  opening-below =
+      ap (λ (t : List ℕ). allBelow 65536 (take n t)) (tail-is openingPlace l)
+      ∙ below-more (2 ^ v) 65536 (take n (drop openingPlace l)) (pow-mono (h .few-values))
+      (sym (masks-below v (take n (drop openingPlace l))) ∙ held-masks n q v start l (h .long) (h .right))
+
+  pub held-few : (getD l 4 0 ≤ mostDecisions) × (getD l 5 0 ≤ mostMarks)
+  held-few = let g = head-all n q v start l (held-head n q v start l (h .long) (h .right)) in (g .0 .d-high, g .0 .m-high)
+
+  pub rows-ready : (k a b : ℕ) → k ≡ getD l 4 0 + getD l 5 0 → a ≡ n → b ≡ n → RowsSafe k (take rowsSize (drop headSize l)) a b
+  unfolding rowsOf
+  rows-ready k a b e f g =
+      let w = held-few in
+      let r = rows-safe n v (getD l 4 0 + getD l 5 0) (rowsOf l) (h .few-values)
+      (room-rows n v (getD l 4 0) (getD l 5 0) (rowsOf l) (room-long n q v start l (h .long) (h .right)) (omega (arith, w .0, w .1))
+      (held-room n q v start l (h .long) (h .right))) in
+      rw (e, f, g) r
+
+-- the filter passes all checks
+module _ (h : Handed) (ms ls kept work : List ℕ) (lent : Lent h work) where
+  filter-tells : length ms ≡ h .places → length ls ≡ h .places → length kept ≡ h .places → masksRight (h .rules .arcs .values) ms ≡ true
+      → filterOf h ms ls kept work ≡ filterDone (told (h .rules) (h .start) 0 (places ms ls)) work
+  unfolding filterOf decided lengthsRight
+  filter-tells a b c d =
+      rw (lent .sized, lent .tabled, eq-eqb _ _ a, eq-eqb _ _ b, eq-eqb _ _ c, eq-eqb _ _ (lent .worked), lent .ruled, d)
+
+module _ (h : Handed) (l ms₀ ls₀ ms ls kept work : List ℕ) (k : ℕ) (lent : Lent h work)
+    (held : Held (h .places) (h .rules .arcs .states) (h .rules .arcs .values) (h .start) l)
+    (opened : opening ms₀ ls₀ ≡ openingAt (h .places) (take (length l - openingPlace) (drop openingPlace l)))
+    (replayed : places ms ls ≡ decides (places ms₀ ls₀) (standing (entriesAt k (take rowsSize (drop headSize l)))))
+    (counted : k ≡ getD l 4 0 + getD l 5 0) where
+  opened-is : opening ms₀ ls₀ ≡ openingOf (h .places) l
+  unfolding openingOf
+  opened-is = opened ∙ ap (openingAt (h .places)) (tail-is openingPlace l)
+
+  masks-inside : length ms₀ ≡ length ls₀ → length ms ≡ length ls → masksRight (h .rules .arcs .values) ms ≡ true
+  unfolding openingOf openingAt
+  masks-inside a b =
+      let v = h .rules .arcs .values in
+      sym (places-inside v ms ls b) ∙ ap (all (inside v)) replayed
+      ∙ decides-inside v (places ms₀ ls₀) _ (places-inside v ms₀ ls₀ a ∙ ap (λ (o : Opening). masksRight v (o .masks)) opened-is
+      ∙ held-masks (h .places) (h .rules .arcs .states) v (h .start) l (held .long) (held .right))
+
+  places-are : places ms ls ≡ placesBy (openingOf (h .places) l) (standing (entriesOf l))
+  unfolding placesBy entriesOf countOf rowsOf
+  places-are =
+      replayed ∙ ap₂ (λ (o : Opening) (j : ℕ). decides (places (o .masks) (o .limits)) (standing (entriesAt j (take rowsSize (drop headSize l))))) opened-is counted
+
+  pub refreshed : length ms₀ ≡ h .places → length ls₀ ≡ h .places → length ms ≡ h .places → length ls ≡ h .places → length kept ≡ h .places
+      → (x : Left) → x ≡ filterOf h ms ls kept work → x ≡ filterDone (toldHeld h l) work
+  unfolding toldHeld toldBy
+  refreshed a b c d e x f =
+      f ∙ filter-tells h ms ls kept work lent c d e (masks-inside (a ∙ sym b) (c ∙ sym d))
+      ∙ ap (λ (ps : List Place). filterDone (told (h .rules) (h .start) 0 ps) work) places-are
+
+-- in the memory around what is held
+module _ (n q v start : ℕ) (m : List ℕ) (h : Held n q v start (heldIn n m)) where
+  pub memory-long : length m ≡ shownSize n + heldSize n
+  memory-long = omega (arith, length-drop (shownSize n) m, h .long)
+
+  pub part-held : Held n q v start (take (length m - shownSize n) (heldIn n m))
+  part-held = rw (tail-is (shownSize n) m) h
+
+  pub front-long : shownSize n ≡ length (take (shownSize n) m)
+  front-long = sym (length-take-le (shownSize n) m (let w = memory-long in omega arith))
+
+module _ (h : Handed) (m w w' ks : List ℕ) (a a' c : ℕ) (number : a' ≡ a)
+    (told-is : filtered a c ks w' ≡ filterDone (toldHeld h (take (length m - shownSize (h .places)) (heldIn (h .places) m))) w) where
+  abbrev t : Told
+  t = toldHeld h (heldIn (h .places) m)
+
+  whole : filtered a c ks w' ≡ filterDone t w
+  whole = told-is ∙ ap (λ (l : List ℕ). filterDone (toldHeld h l) w) (tail-is (shownSize (h .places)) m)
+
+  shown-is : toldOf a' ks c ≡ t
+  unfolding filterDone
+  shown-is = ap (λ (x : ℕ). toldOf x ks c) number ∙ ap (λ (x : Left). toldOf (x .answer) (x .kept) (x .least)) whole
+
+  work-is : w' ≡ zeros w
+  unfolding filterDone
+  work-is = ap (λ (x : Left). x .work) whole
+
+  pub judged : (r : Bool) → r ≡ same (take (shownSize (h .places)) m) (shownOf (toldOf a' ks c)) → Judged h m w r w'
+  judged r e = record { verdict = e ∙ ap (λ (x : Told). same (take (shownSize (h .places)) m) (shownOf x)) shown-is; swept-after = work-is }
+
+  pub settles : (y : List ℕ) → y ≡ shownOf (toldOf a' ks c) → left a (y ++ heldIn (h .places) m) w' ≡ settledBy h (heldIn (h .places) m) w
+  unfolding settledBy
+  settles y e =
+      ap (λ (x : List ℕ). left a (x ++ heldIn (h .places) m) w') e
+      ∙ ap₂ (λ (x : ℕ) (u : List ℕ). left x (shownOf (toldOf a' ks c) ++ heldIn (h .places) m) u) (sym number) work-is
+      ∙ ap (λ (x : Told). left (x .answered) (shownOf x ++ heldIn (h .places) m) (zeros w)) shown-is
+
+-- the front of the local arrays
+abbrev pub blank : List ℕ
+blank = replicate mostPlaces 0
+
+pub front-zeros : (n : ℕ) → n ≤ mostPlaces → n ≡ length (take n blank)
+front-zeros n h = sym (length-take-le n blank (omega (arith, length-replicate {A = ℕ} mostPlaces 0)))

@@ -1,0 +1,42 @@
+// What a session call is lent: the checks of answers 1, 2 and 3.
+ghost use mathlib.Core.Path.{_≡_};
+ghost use Rattle.rules.specs.Answers.{numberOf};
+ghost use Rattle.rules.specs.Checks.{handed};
+ghost use Rattle.machine.specs.Calls.{readiness};
+ghost use Rattle.machine.specs.Inner.{lentOf};
+use crate::lists;
+use crate::room;
+use rules::Answer;
+use rules::Size;
+use rules::bounds;
+
+// Done, or the refusal, with a memory of that length.
+pub(crate) fn lent_right(
+    places: usize,
+    size: Size,
+    targets: &[u8],
+    costs: &[u16],
+    accepting: u64,
+    memory: usize,
+    work: &mut [u32],
+) -> Answer
+    ensures { λ r. ⌜ readiness (numberOf r) (now (work .exit)) ≡ lentOf (handed places (size .states) (size .values) (size .start .0) (now (targets .entry)) (now (costs .entry)) accepting) memory (now (work .entry)) ⌝ }
+{
+    if !rules::sizes_right(places, size) {
+        return Answer::WrongSize;
+    }
+    if !rules::tables_long(targets, costs) {
+        return Answer::WrongLength;
+    }
+    if memory != 3 * places + room::REST_SIZE {
+        return Answer::WrongLength;
+    }
+    if work.len() != (places + 1) * bounds::MOST_STATES {
+        return Answer::WrongLength;
+    }
+    if !rules::rules_right(size, targets, costs, accepting) {
+        lists::clear(work);
+        return Answer::WrongTables;
+    }
+    Answer::Done
+}

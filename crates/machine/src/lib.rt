@@ -1,0 +1,68 @@
+// The memory of a session: the image of an abstract session, tested before a call and settled after it.
+ghost use mathlib.Core.Path.{_≡_};
+ghost use Rattle.rules.specs.Answers.{numberOf};
+ghost use Rattle.rules.specs.Checks.{handed};
+ghost use Rattle.machine.specs.Calls.{readiness, readyOf, left, settledOf};
+
+mod held;
+mod lent;
+pub mod lists;
+mod refresh;
+mod replay;
+pub mod room;
+pub mod rows;
+mod shown;
+
+use rules::Answer;
+use rules::Size;
+
+// Whether the memory is ready for a call: Done, or the refusal by 1, 2, 3 or 12.
+pub fn ready(
+    places: usize,
+    size: Size,
+    targets: &[u8],
+    costs: &[u16],
+    accepting: u64,
+    memory: &[u32],
+    work: &mut [u32],
+) -> Answer
+    ensures { λ r. ⌜ readiness (numberOf r) (now (work .exit)) ≡ readyOf (handed places (size .states) (size .values) (size .start .0) (now (targets .entry)) (now (costs .entry)) accepting) (now (memory .entry)) (now (work .entry)) ⌝ }
+{
+    let answer = lent::lent_right(places, size, targets, costs, accepting, memory.len(), work);
+    if answer.number() != 0 {
+        return answer;
+    }
+    let front = places + room::SHOWN;
+    if !held::held_right(places, size, &memory[front..]) {
+        lists::clear(work);
+        return Answer::WrongMemory;
+    }
+    if !refresh::shown_right(places, size, targets, costs, accepting, memory, work) {
+        return Answer::WrongMemory;
+    }
+    Answer::Done
+}
+
+// Shows what a filter tells of what is held, and answers by it; what was shown before plays no part.
+pub fn settle(
+    places: usize,
+    size: Size,
+    targets: &[u8],
+    costs: &[u16],
+    accepting: u64,
+    memory: &mut [u32],
+    work: &mut [u32],
+) -> Answer
+    ensures { λ r. ⌜ left (numberOf r) (now (memory .exit)) (now (work .exit)) ≡ settledOf (handed places (size .states) (size .values) (size .start .0) (now (targets .entry)) (now (costs .entry)) accepting) (now (memory .entry)) (now (work .entry)) ⌝ }
+{
+    let answer = lent::lent_right(places, size, targets, costs, accepting, memory.len(), work);
+    if answer.number() != 0 {
+        return answer;
+    }
+    let front = places + room::SHOWN;
+    if !held::held_right(places, size, &memory[front..]) {
+        lists::clear(work);
+        return Answer::WrongMemory;
+    }
+    refresh::show_held(places, size, targets, costs, accepting, memory, work)
+}

@@ -1,0 +1,72 @@
+// Lists of numbers: tested, cleared and copied whole.
+ghost use mathlib.Core.Path.{_≡_};
+ghost use mathlib.Core.Bool.{true};
+ghost use lib.ListN.{length};
+ghost use Rattle.rules.specs.Answers.{zeros};
+ghost use Rattle.machine.specs.Memory.{allBelow};
+ghost use Rattle.machine.specs.Calls.{copied};
+
+// Whether every number is below the bound.
+pub(crate) fn all_below(s: &[u32], bound: u32) -> bool
+    ensures { λ r. ⌜ r ≡ allBelow bound (now (s .entry)) ⌝ }
+{
+    let mut i: usize = 0;
+    while i < s.len() {
+        if s[i] >= bound {
+            return false;
+        }
+        i += 1;
+    }
+    true
+}
+
+// Every number becomes 0.
+pub fn clear(s: &mut [u32])
+    ensures { λ _. ⌜ now (s .exit) ≡ zeros (now (s .entry)) ⌝ }
+{
+    let mut i: usize = 0;
+    while i < s.len() {
+        s[i] = 0;
+        i += 1;
+    }
+}
+
+// One list over another of the same length.
+pub fn copy(to: &mut [u32], from: &[u32])
+    ensures { λ _. ⌜ now (to .exit) ≡ copied (now (to .entry)) (now (from .entry)) ⌝ }
+{
+    if to.len() != from.len() {
+        return;
+    }
+    let mut i: usize = 0;
+    while i < from.len() {
+        to[i] = from[i];
+        i += 1;
+    }
+}
+
+// Masks over as many numbers.
+pub fn widen(to: &mut [u32], from: &[u16])
+    ensures { λ _. ⌜ now (to .exit) ≡ copied (now (to .entry)) (now (from .entry)) ⌝ }
+{
+    if to.len() != from.len() {
+        return;
+    }
+    let mut i: usize = 0;
+    while i < from.len() {
+        to[i] = from[i] as u32;
+        i += 1;
+    }
+}
+
+// Numbers that are masks over as many masks.
+pub(crate) fn narrow(to: &mut [u16], from: &[u32])
+    requires { ⌜ (length (now to) ≡ length (now from)) × (allBelow 65536 (now from) ≡ true) ⌝ }
+    ensures { λ _. ⌜ now (to .exit) ≡ now (from .entry) ⌝ }
+{
+    let mut i: usize = 0;
+    while i < from.len() {
+        to[i] = from[i] as u16;
+        i += 1;
+    }
+}

@@ -1,0 +1,59 @@
+// The places that a session has come to: its opening, with the standing decisions applied.
+ghost use mathlib.Core.Path.{_≡_};
+ghost use mathlib.Core.Bool.{true};
+ghost use mathlib.Core.List.{[], _∷_};
+ghost use Prim.Native.Nat.{_+_, _≤_, min};
+ghost use lib.ListN.{length, take};
+ghost use Rattle.rules.specs.Meaning.{places, decides};
+ghost use Rattle.machine.specs.Room.{mostEntries, rowsSize};
+ghost use Rattle.machine.specs.Sessions.{opening, standing};
+ghost use Rattle.machine.specs.Memory.{entryOf, entriesAt, openingAt, allBelow};
+ghost use Rattle.machine.specs.Inner.{RowSafe, RowsSafe};
+use crate::lists;
+use crate::room;
+
+// The smaller of two limits.
+fn lesser(a: u32, b: u32) -> u32
+    ensures { λ r. ⌜ r ≡ min a b ⌝ }
+{
+    if a < b {
+        return a;
+    }
+    b
+}
+
+// One entry applied: the meet of both masks, or the smaller of both limits.
+pub(crate) fn apply_row(kind: u32, place: usize, amount: u32, masks: &mut [u16], limits: &mut [u32])
+    requires { ⌜ RowSafe kind place amount (length (now masks)) (length (now limits)) ⌝ }
+    ensures { λ _. ⌜ places (now (masks .exit)) (now (limits .exit)) ≡ decides (places (now (masks .entry)) (now (limits .entry))) (standing (entryOf kind place amount ∷ [])) ⌝ }
+{
+    if kind == room::KEEP {
+        masks[place] = masks[place] & (amount as u16);
+        return;
+    }
+    if kind == room::LIMIT {
+        limits[place] = lesser(limits[place], amount);
+    }
+}
+
+// The first entries applied, the oldest first.
+pub(crate) fn replay(count: usize, rows: &[u32], masks: &mut [u16], limits: &mut [u32])
+    requires { ⌜ (count ≤ mostEntries) × (length (now rows) ≡ rowsSize) × RowsSafe count (now rows) (length (now masks)) (length (now limits)) ⌝ }
+    ensures { λ _. ⌜ places (now (masks .exit)) (now (limits .exit)) ≡ decides (places (now (masks .entry)) (now (limits .entry))) (standing (entriesAt count (now (rows .entry)))) ⌝ }
+{
+    let mut i: usize = 0;
+    while i < count {
+        let at = i * room::ROW_SIZE;
+        apply_row(rows[at], rows[at + 1] as usize, rows[at + 2], masks, limits);
+        i += 1;
+    }
+}
+
+// The opening masks and limits, out of memory.
+pub(crate) fn restore(places: usize, held: &[u32], masks: &mut [u16], limits: &mut [u32])
+    requires { ⌜ (length (now held) ≡ places + places) × (length (now masks) ≡ places) × (length (now limits) ≡ places) × (allBelow 65536 (take places (now held)) ≡ true) ⌝ }
+    ensures { λ _. ⌜ opening (now (masks .exit)) (now (limits .exit)) ≡ openingAt places (now (held .entry)) ⌝ }
+{
+    lists::narrow(masks, &held[..places]);
+    lists::copy(limits, &held[places..]);
+}

@@ -1,0 +1,8 @@
+pub mod Pushes
+pub mod Backs
+pub mod Openings
+pub mod Ranges
+pub mod Calls
+pub mod Opens
+pub mod Demand
+pub mod Unique

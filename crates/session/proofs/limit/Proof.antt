@@ -1,0 +1,64 @@
+use native.Mathlib.Omega.{arith}
+use mathlib.Core.Path.{sym, _∙_}
+use Rattle.session.proofs.Calls.{bounds, call-refused, ready-formed, call-far, call-decides}
+use Rattle.session.proofs.Ranges.{limit-far, limit-right, limit-row, limit-entry}
+use borrow.Author.Needs.{needs}
+use Rattle.session.proofs.limit.Statement.{statement}
+use Rattle.session.proofs.limit.Tie as tie
+
+ready-requires : tie.Need-ready-requires
+ready-requires c κs = search needs
+
+number-requires : tie.Need-number-requires
+number-requires c κs = search needs
+
+same-length : tie.Need-same-length
+same-length c = search needs
+
+same-length-2 : tie.Need-same-length-2
+same-length-2 c = search needs
+
+returns : tie.Need-returns
+returns c = call-refused _ _ _ _ _ (c .before .before .before .before .ready .ensures) _ (λ z. c .if1 .taken (c .before .number .ensures ∙ z))
+
+same-length-3 : tie.Need-same-length-3
+same-length-3 c = search needs
+
+same-length-4 : tie.Need-same-length-4
+same-length-4 c = search needs
+
+returns-2 : tie.Need-returns-2
+returns-2 c = call-far _ (c .before .before .before .before .before .before .before .before .before .before .before .before .args .memory .now) _ _ _ (c .before .before .before .before .before .ready .ensures) (sym (c .before .before .number .ensures) ∙ c .before .if1 .left) _ (limit-far _ _ _ _ (c .if2 .taken))
+
+cast-decide : tie.Need-cast-decide
+cast-decide c = let b = bounds _ _ _ (ready-formed _ (c .before .before .before .before .before .before .before .before .before .before .before .before .args .memory .now) _ _ _ (c .before .before .before .before .before .ready .ensures) (sym (c .before .before .number .ensures) ∙ c .before .if1 .left)) in omega (arith, b .1, c .if2 .left)
+
+decide-requires : tie.Need-decide-requires
+decide-requires c κs = ((ready-formed _ (c .before .before .before .before .before .before .before .before .before .before .before .before .before .before .args .memory .now) _ _ _ (c .before .before .before .before .before .before .before .ready .ensures) (sym (c .before .before .before .before .number .ensures) ∙ c .before .before .before .if1 .left)), limit-row _ _ _ _ (c .before .before .if2 .left), limit-entry _ _ .1)
+
+same-length-5 : tie.Need-same-length-5
+same-length-5 c = search needs
+
+same-length-6 : tie.Need-same-length-6
+same-length-6 c = search needs
+
+returns-3 : tie.Need-returns-3
+returns-3 c = call-decides _ (c .before .before .before .before .before .before .before .before .before .before .before .before .before .before .before .before .before .before .before .args .memory .now) _ _ _ (c .before .before .before .before .before .before .before .before .before .before .before .before .ready .ensures) (sym (c .before .before .before .before .before .before .before .before .before .number .ensures) ∙ c .before .before .before .before .before .before .before .before .if1 .left) _ _ _ _ (limit-entry _ _ .0) (limit-right _ _ _ _ (c .before .before .before .before .before .before .before .if2 .left)) _ (c .before .before .before .before .decide .ensures)
+
+pub limit-spec : {M : Type 1} → statement M
+limit-spec =
+    tie.close
+    (tie.spec
+    ready-requires
+    number-requires
+    same-length
+    same-length-2
+    returns
+    same-length-3
+    same-length-4
+    returns-2
+    cast-decide
+    decide-requires
+    same-length-5
+    same-length-6
+    returns-3)

@@ -1,0 +1,257 @@
+//! The program of the paper: input bytes to output bytes.
+
+use crate::rules::{Case, Found, Rules, MOST_LIMIT};
+use crate::sheet::{fields, lines, number_up_to, parse, Line};
+use crate::tables;
+
+/// "Input over 32,768 bytes prints `long`."
+pub const MOST_INPUT: usize = 32_768;
+/// "n (1 to 128 here)".
+const MOST_DAYS: u64 = 128;
+/// "then up to 512 lines".
+const MOST_DECISIONS: usize = 512;
+
+/// Why no filter was made.
+enum Wrong {
+    Long,
+    Sheet(usize),
+    Job(usize),
+}
+
+/// The masks and limits with all lines taken.
+struct Job {
+    masks: Vec<u16>,
+    limits: Vec<u32>,
+}
+
+pub fn run(input: &[u8]) -> Vec<u8> {
+    let text = match filtered(input) {
+        Ok(Some(found)) => print_found(&found),
+        Ok(None) => "none\n".to_owned(),
+        Err(Wrong::Long) => "long\n".to_owned(),
+        Err(Wrong::Sheet(line)) => format!("sheet\t{line}\n"),
+        Err(Wrong::Job(line)) => format!("job\t{line}\n"),
+    };
+    text.into_bytes()
+}
+
+fn print_found(found: &Found) -> String {
+    let kept = found.kept.iter().enumerate();
+    let kept: String = kept.map(|(place, mask)| format!("kept\t{place}\t{mask}\n")).collect();
+    format!("{kept}least\t{}\n", found.least)
+}
+
+fn filtered(input: &[u8]) -> Result<Option<Found>, Wrong> {
+    if input.len() > MOST_INPUT {
+        return Err(Wrong::Long);
+    }
+    let (sheet, job) = part(input);
+    let rules = parse(sheet).map_err(Wrong::Sheet)?;
+    // "with none and a right sheet, it prints `job` and 1".
+    let job = job.ok_or(Wrong::Job(1))?;
+    let Job { masks, limits } = take_job(&rules, &lines(job)).map_err(Wrong::Job)?;
+    Ok(tables::filter(&Case { rules: &rules, masks: &masks, limits: &limits }))
+}
+
+/// "The sheet is what stands before the first empty line, or all the input if there is none."
+fn part(input: &[u8]) -> (&[u8], Option<&[u8]>) {
+    let is_empty_line = |at: &usize| input[*at] == b'\n' && (*at == 0 || input[at - 1] == b'\n');
+    match (0..input.len()).find(is_empty_line) {
+        Some(at) => (&input[..at], Some(&input[at + 1..])),
+        None => (input, None),
+    }
+}
+
+/// The job of all lines, or the first wrong one, from 1.
+fn take_job(rules: &Rules, lines: &[Line]) -> Result<Job, usize> {
+    // "a missing line counts as wrong".
+    let first = lines.first().filter(|line| line.ended).ok_or(1_usize)?;
+    let days = days_line(first.text).ok_or(1_usize)?;
+    // "All masks start full, all limits at 366,000."
+    let mut job = Job { masks: vec![rules.full_mask(); days], limits: vec![MOST_LIMIT; days] };
+    for (index, line) in lines.iter().enumerate().skip(1) {
+        let lawful = line.ended && index <= MOST_DECISIONS;
+        let taken = if lawful { job.take(rules, line.text) } else { None };
+        taken.ok_or(index + 1)?;
+    }
+    Ok(job)
+}
+
+fn days_line(text: &[u8]) -> Option<usize> {
+    let &[b"days", days] = fields(text).as_slice() else {
+        return None;
+    };
+    number_up_to(days, MOST_DAYS).filter(|days| *days >= 1).map(|days| days as usize)
+}
+
+impl Job {
+    /// "lines `keep` place mask or `limit` place cost".
+    fn take(&mut self, rules: &Rules, text: &[u8]) -> Option<()> {
+        match *fields(text).as_slice() {
+            [b"keep", place, mask] => {
+                let place = self.place(place)?;
+                let mask = number_up_to(mask, u64::from(rules.full_mask()))?;
+                self.masks[place] &= mask as u16;
+            }
+            [b"limit", place, cost] => {
+                let place = self.place(place)?;
+                let cost = number_up_to(cost, u64::from(u32::MAX))? as u32;
+                self.limits[place] = self.limits[place].min(cost);
+            }
+            _ => return None,
+        }
+        Some(())
+    }
+
+    fn place(&self, field: &[u8]) -> Option<usize> {
+        number_up_to(field, self.masks.len() as u64 - 1).map(|place| place as usize)
+    }
+}
+
+#[cfg(test)]
+mod tests {
+    use super::*;
+    use crate::worked::W;
+
+    fn print(input: &str) -> String {
+        String::from_utf8(run(input.as_bytes())).unwrap()
+    }
+
+    /// What is printed for W, the empty line and these job lines.
+    fn on_w(job: &str) -> String {
+        print(&format!("{W}\n{job}"))
+    }
+
+    #[test]
+    fn the_papers_example_byte_for_byte() {
+        assert_eq!(on_w("days\t3\nkeep\t1\t1\n"), "kept\t0\t5\nkept\t1\t1\nkept\t2\t5\nleast\t2\n");
+    }
+
+    #[test]
+    fn limits_meet_and_the_smaller_stands() {
+        let job = "days\t3\nlimit\t1\t1\nlimit\t1\t4294967295\n";
+        assert_eq!(on_w(job), "kept\t0\t4\nkept\t1\t5\nkept\t2\t3\nleast\t2\n");
+    }
+
+    #[test]
+    fn p1_the_first_empty_line_and_the_empty_sheet() {
+        assert_eq!(print(""), "sheet\t1\n");
+        assert_eq!(print("\n"), "sheet\t1\n");
+        assert_eq!(print(&format!("\n{W}\ndays\t3\n")), "sheet\t1\n");
+    }
+
+    #[test]
+    fn p2_w_alone_has_no_empty_line() {
+        assert_eq!(print(W), "job\t1\n");
+        assert_eq!(print(W.trim_end()), "sheet\t18\n");
+    }
+
+    #[test]
+    fn p3_missing_and_empty_job_lines() {
+        assert_eq!(on_w(""), "job\t1\n");
+        assert_eq!(on_w("\n"), "job\t1\n");
+        assert_eq!(on_w("\ndays\t3\n"), "job\t1\n");
+        assert_eq!(on_w("days\t3\n\n"), "job\t2\n");
+    }
+
+    #[test]
+    fn p4_days_without_the_empty_line_is_a_sheet_line() {
+        assert_eq!(print(&format!("{W}days\t3\n")), "sheet\t19\n");
+        assert_eq!(print(&format!("{W}days\t3\n\ndays\t3\n")), "sheet\t19\n");
+    }
+
+    #[test]
+    fn p5_the_513th_decision() {
+        let full = "days\t3\n".to_owned() + &"keep\t0\t7\n".repeat(512);
+        assert!(on_w(&full).starts_with("kept\t0\t7\n"));
+        assert_eq!(on_w(&format!("{full}keep\t0\t7\n")), "job\t514\n");
+        assert_eq!(on_w(&format!("{full}?")), "job\t514\n");
+        let early = "days\t3\nkeep\n".to_owned() + &"keep\t0\t7\n".repeat(600);
+        assert_eq!(on_w(&early), "job\t2\n");
+    }
+
+    #[test]
+    fn p6_a_carriage_return_is_no_line_end() {
+        let text = format!("{W}\ndays\t3\n").replace('\n', "\r\n");
+        assert_eq!(print(&text), "sheet\t1\n");
+        assert_eq!(print(&format!("{W}\r\ndays\t3\n")), "sheet\t19\n");
+    }
+
+    #[test]
+    fn p7_none_is_printed_only_if_no_line_is_wrong() {
+        assert_eq!(on_w("days\t3\nkeep\t0\t0\n"), "none\n");
+        assert_eq!(on_w("days\t3\nkeep\t0\t0\nkeep\t3\t0\n"), "job\t3\n");
+    }
+
+    #[test]
+    fn p8_job_numbers_have_the_form_of_sheet_numbers() {
+        for line in ["keep\t00\t1\n", "keep\t1\t+1\n", "limit\t1\t01\n", "limit\t1\t 1\n"] {
+            assert_eq!(on_w(&format!("days\t3\n{line}")), "job\t2\n", "{line:?}");
+        }
+        assert_eq!(on_w("days\t03\n"), "job\t1\n");
+    }
+
+    #[test]
+    fn p9_input_over_32768_bytes_is_long() {
+        assert_eq!(print(&"?".repeat(32_768)), "sheet\t1\n");
+        assert_eq!(print(&"?".repeat(32_769)), "long\n");
+        let job = format!("{W}\ndays\t3\n");
+        let exact = job.clone() + &"\n".repeat(32_768 - job.len());
+        assert_eq!(print(&exact), "job\t2\n");
+        assert_eq!(print(&(exact + "\n")), "long\n");
+    }
+
+    #[test]
+    fn p10_the_largest_right_job_is_answered() {
+        let rules = Rules {
+            states: 64,
+            values: 16,
+            start: 63,
+            targets: vec![63; 1_024],
+            costs: vec![1_000; 1_024],
+            accepting: u64::MAX,
+        };
+        let lines = "limit\t127\t4294967295\n".repeat(512);
+        let input = format!("{}\ndays\t128\n{lines}", crate::sheet::sheet_of(&rules));
+        assert_eq!(input.len(), 28_974);
+        assert!(print(&input).ends_with("kept\t127\t65535\nleast\t128000\n"));
+    }
+
+    #[test]
+    fn wrong_job_lines_by_form_range_and_line_feed() {
+        let wrong_days = [
+            "days\t0\n",
+            "days\t129\n",
+            "days\t3",
+            "days\n",
+            "days\t3\t\n",
+            "Days\t3\n",
+            "day\t3\n",
+            "keep\t0\t1\n",
+            "days 3\n",
+            "days\t\n",
+            "days\t99999999999999999999\n",
+        ];
+        for line in wrong_days {
+            assert_eq!(on_w(line), "job\t1\n", "{line:?}");
+        }
+        let wrong = [
+            "keep\t3\t1\n",
+            "keep\t0\t8\n",
+            "keep\t0\t65536\n",
+            "limit\t3\t1\n",
+            "keep\t0\n",
+            "limit\t0\t4294967296\n",
+            "limit\t0\t99999999999999999999\n",
+            "keep\t0\t1\t\n",
+            "keep\t0\t1",
+            "limit\t0\n",
+            "mark\n",
+            "days\t3\n",
+            "keep\t0\t1\r\n",
+        ];
+        for line in wrong {
+            assert_eq!(on_w(&format!("days\t3\nkeep\t0\t7\n{line}")), "job\t3\n", "{line:?}");
+        }
+    }
+}

@@ -1,0 +1,128 @@
+//! Brute force over all words: the paper's definitions, read off one list. For small n only.
+
+use crate::rules::{holds, Case, Found};
+
+/// A roster and its running cost at each place.
+type Costed = (Vec<u8>, Vec<u32>);
+
+/// How many words there are, if that many are still worth listing.
+pub fn count_up_to(case: &Case, most: usize) -> Option<usize> {
+    let places = u32::try_from(case.places()).ok()?;
+    let words = case.rules.values.checked_pow(places)?;
+    (words <= most).then_some(words)
+}
+
+/// All words of n values, "compared place by place, smaller value first".
+fn all_words(places: usize, values: usize) -> Vec<Vec<u8>> {
+    let mut words = vec![Vec::new()];
+    for _ in 0..places {
+        words = words.iter().flat_map(|word| longer_words(word, values)).collect();
+    }
+    words
+}
+
+fn longer_words(word: &[u8], values: usize) -> Vec<Vec<u8>> {
+    (0..values as u8).map(|value| [word, &[value]].concat()).collect()
+}
+
+/// "From the start state a roster follows one arc for each value. A missing arc means not
+/// accepted. It is accepted if the last state is accepting." The running costs, if accepted.
+fn running_costs(case: &Case, word: &[u8]) -> Option<Vec<u32>> {
+    let mut state = usize::from(case.rules.start);
+    let mut spent = 0;
+    let mut running = Vec::new();
+    for &value in word {
+        let (target, cost) = case.rules.arc(state, usize::from(value))?;
+        state = target;
+        spent += cost;
+        running.push(spent);
+    }
+    case.rules.accepts(state).then_some(running)
+}
+
+/// "each value is in its place's mask, and at every place the running cost is at most that
+/// place's limit".
+fn is_within(case: &Case, word: &[u8], running: &[u32]) -> bool {
+    let in_masks = (0..word.len()).all(|i| holds(case.masks[i], usize::from(word[i])));
+    let in_limits = (0..word.len()).all(|i| running[i] <= case.limit(i));
+    in_masks && in_limits
+}
+
+/// The allowed rosters in the paper's order, with their running costs.
+pub fn allowed(case: &Case) -> Vec<Costed> {
+    all_words(case.places(), case.rules.values)
+        .into_iter()
+        .filter_map(|word| running_costs(case, &word).map(|running| (word, running)))
+        .filter(|(word, running)| is_within(case, word, running))
+        .collect()
+}
+
+/// "A kept value is one that some allowed roster has at that place."
+pub fn filter(case: &Case) -> Option<Found> {
+    let rosters = allowed(case);
+    let least = rosters.iter().filter_map(|(_, running)| running.last().copied()).min()?;
+    let mut kept = vec![0; case.places()];
+    for (word, _) in &rosters {
+        for (place, value) in word.iter().enumerate() {
+            kept[place] |= 1 << value;
+        }
+    }
+    Some(Found { kept, least })
+}
+
+/// "the allowed one having v there that comes first".
+pub fn first_roster(case: &Case, place: usize, value: u8) -> Option<Vec<u8>> {
+    let mut rosters = allowed(case).into_iter().map(|(word, _)| word);
+    rosters.find(|word| word[place] == value)
+}
+
+#[cfg(test)]
+mod tests {
+    use super::*;
+    use crate::rules::MOST_LIMIT;
+    use crate::worked::{w, FIRST_CASES, KEPT_CASES};
+
+    #[test]
+    fn words_come_in_the_papers_order() {
+        let words = all_words(2, 2);
+        assert_eq!(words, [[0, 0], [0, 1], [1, 0], [1, 1]]);
+    }
+
+    #[test]
+    fn w_accepts_the_eight_rosters_of_length_3() {
+        let rules = w();
+        let case = Case { rules: &rules, masks: &[7; 3], limits: &[MOST_LIMIT; 3] };
+        let letters = |word: &[u8]| word.iter().map(|v| ['d', 'e', 'x'][usize::from(*v)]).collect();
+        let rosters: Vec<String> = allowed(&case).iter().map(|(word, _)| letters(word)).collect();
+        assert_eq!(rosters, ["ddx", "eex", "exe", "exx", "xdd", "xee", "xex", "xxe"]);
+    }
+
+    #[test]
+    fn k1_to_k10() {
+        let rules = w();
+        for worked in KEPT_CASES {
+            let case = Case { rules: &rules, masks: worked.masks, limits: worked.limits };
+            assert_eq!(filter(&case), worked.found(), "{}", worked.name);
+        }
+    }
+
+    #[test]
+    fn k11_and_k12() {
+        let rules = w();
+        for worked in FIRST_CASES {
+            let case = Case { rules: &rules, masks: worked.masks, limits: worked.limits };
+            let first = first_roster(&case, worked.place, worked.value);
+            assert_eq!(first.as_deref(), Some(worked.roster), "{}", worked.name);
+        }
+    }
+
+    #[test]
+    fn counting_words_never_overflows() {
+        let rules = w();
+        let long = Case { rules: &rules, masks: &[7; 366], limits: &[0; 366] };
+        assert_eq!(count_up_to(&long, usize::MAX), None);
+        let short = Case { rules: &rules, masks: &[7; 3], limits: &[0; 3] };
+        assert_eq!(count_up_to(&short, 27), Some(27));
+        assert_eq!(count_up_to(&short, 26), None);
+    }
+}

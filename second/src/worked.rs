@@ -1,0 +1,109 @@
+//! The sheet W and the rosters worked on it, as the paper prints them.
+
+use crate::rules::{Found, Rules, MOST_LIMIT, NO_ARC, TABLE};
+
+/// The sheet W, whole.
+pub const W: &str = "size\t6\t3\t0\n\
+    final\t0\nfinal\t2\nfinal\t3\nfinal\t4\nfinal\t5\n\
+    arc\t0\t0\t1\t1\narc\t0\t1\t3\t2\narc\t0\t2\t4\t0\n\
+    arc\t1\t0\t2\t1\n\
+    arc\t2\t2\t4\t0\n\
+    arc\t3\t1\t2\t2\narc\t3\t2\t4\t0\n\
+    arc\t4\t0\t1\t1\narc\t4\t1\t3\t2\narc\t4\t2\t5\t0\n\
+    arc\t5\t0\t1\t1\narc\t5\t1\t3\t2\n";
+
+/// The arcs of W, by state then value: state, value, target, cost.
+const ARCS: [(usize, usize, u8, u16); 12] = [
+    (0, 0, 1, 1),
+    (0, 1, 3, 2),
+    (0, 2, 4, 0),
+    (1, 0, 2, 1),
+    (2, 2, 4, 0),
+    (3, 1, 2, 2),
+    (3, 2, 4, 0),
+    (4, 0, 1, 1),
+    (4, 1, 3, 2),
+    (4, 2, 5, 0),
+    (5, 0, 1, 1),
+    (5, 1, 3, 2),
+];
+
+/// The rule set of W, with the places that play no part holding no arcs.
+pub fn w() -> Rules {
+    let mut targets = vec![NO_ARC; TABLE];
+    let mut costs = vec![0; TABLE];
+    for (state, value, target, cost) in ARCS {
+        targets[state * 3 + value] = target;
+        costs[state * 3 + value] = cost;
+    }
+    Rules { states: 6, values: 3, start: 0, targets, costs, accepting: 0b11_1101 }
+}
+
+/// One of K1 to K10.
+pub struct KeptCase {
+    pub name: &'static str,
+    pub masks: &'static [u16],
+    pub limits: &'static [u32],
+    pub kept: &'static [u16],
+    pub least: u32,
+    pub answer: u32,
+}
+
+impl KeptCase {
+    pub fn found(&self) -> Option<Found> {
+        (self.answer == 0).then(|| Found { kept: self.kept.to_vec(), least: self.least })
+    }
+}
+
+/// "-" is a limit of 366,000.
+const N: u32 = MOST_LIMIT;
+
+const fn found(
+    name: &'static str,
+    masks: &'static [u16],
+    limits: &'static [u32],
+    kept: &'static [u16],
+    least: u32,
+) -> KeptCase {
+    KeptCase { name, masks, limits, kept, least, answer: 0 }
+}
+
+const fn none(
+    name: &'static str,
+    masks: &'static [u16],
+    limits: &'static [u32],
+    kept: &'static [u16],
+) -> KeptCase {
+    KeptCase { name, masks, limits, kept, least: 0, answer: 11 }
+}
+
+pub const KEPT_CASES: &[KeptCase] = &[
+    found("K1", &[7], &[N], &[6], 0),
+    found("K2", &[7, 7], &[N, N], &[7, 7], 0),
+    found("K3", &[7, 7, 7], &[N, N, N], &[7, 7, 7], 2),
+    found("K4", &[7, 1, 7], &[N, N, N], &[5, 1, 5], 2),
+    found("K5", &[7, 7, 7], &[0, N, N], &[4, 7, 7], 2),
+    found("K6", &[7, 7, 7], &[0, 0, N], &[4, 4, 2], 2),
+    none("K7", &[7, 7, 7], &[0, 0, 1], &[0, 0, 0]),
+    found("K8", &[7, 7, 7], &[1, 2, 2], &[5, 7, 7], 2),
+    found("K9", &[7, 7, 7], &[N, 1, N], &[4, 5, 3], 2),
+    none("K10", &[7, 0, 7], &[N, N, N], &[0, 0, 0]),
+];
+
+/// K11 or K12.
+pub struct FirstCase {
+    pub name: &'static str,
+    pub masks: &'static [u16],
+    pub limits: &'static [u32],
+    pub place: usize,
+    pub value: u8,
+    pub roster: &'static [u8],
+}
+
+const fn first(name: &'static str, limits: &'static [u32], roster: &'static [u8]) -> FirstCase {
+    FirstCase { name, masks: &[7, 7, 7], limits, place: 1, value: 1, roster }
+}
+
+/// "first roster with e at place 1 is eex", "the same with K5's limits is xee".
+pub const FIRST_CASES: &[FirstCase] =
+    &[first("K11", &[N, N, N], &[1, 1, 2]), first("K12", &[0, N, N], &[2, 1, 1])];
