@@ -1,8 +1,15 @@
 // The C boundary: numbers as themselves, a slice as a pointer and a length; the answer's number is returned, carried numbers are written.
 ghost use mathlib.Core.Path.{_≡_};
 ghost use Rattle.rules.specs.Checks.{handed};
+ghost use Rattle.rules.specs.Meaning.{rulesOf, Keep, Limit};
+ghost use Rattle.rules.specs.Report.{outcome, reportOf};
 ghost use Rattle.filter.specs.Filter.{left, filterOf};
 ghost use Rattle.filter.specs.First.{given, firstOf};
+ghost use Rattle.sheet.specs.Reading.{readLeft, readOf};
+ghost use Rattle.scribe.specs.Writing.{writeLeft, writeOf};
+ghost use Rattle.machine.specs.Sessions.{opening, deciding, marking, goingBack};
+ghost use Rattle.machine.specs.Calls.{left as leftIn};
+ghost use Rattle.session.specs.Calls.{opened, called};
 use kinds::State;
 use kinds::Value;
 use rules::Size;
@@ -81,5 +88,230 @@ pub extern "C" fn reedgosling_first_roster(
         roster,
         work,
     );
+    answer.number() as u32
+}
+
+#[no_mangle]
+pub extern "C" fn reedgosling_prefix_report(
+    places: usize,
+    states: usize,
+    values: usize,
+    start: u8,
+    targets: &[u8],
+    costs: &[u16],
+    accepting: u64,
+    roster: &[u8],
+    report: &mut usize,
+) -> u32
+    ensures { λ r. ⌜ outcome r (now (report .exit)) ≡ reportOf (handed places states values start (now (targets .entry)) (now (costs .entry)) accepting) (now (roster .entry)) ⌝ }
+{
+    let size = Size {
+        states,
+        values,
+        start: State(start),
+    };
+    let told = rules::prefix_report(places, size, targets, costs, accepting, roster);
+    let answer = told.answer;
+    *report = told.report;
+    answer.number() as u32
+}
+
+#[no_mangle]
+pub extern "C" fn reedgosling_read_sheet(
+    text: &[u8],
+    targets: &mut [u8],
+    costs: &mut [u16],
+    line: &mut usize,
+    states: &mut usize,
+    values: &mut usize,
+    start: &mut u8,
+    accepting: &mut u64,
+) -> u32
+    ensures { λ r. ⌜ readLeft r (now (line .exit)) (now (states .exit)) (now (values .exit)) (now (start .exit)) (now (accepting .exit)) (now (targets .exit)) (now (costs .exit)) ≡ readOf (now (text .entry)) (now (targets .entry)) (now (costs .entry)) ⌝ }
+{
+    let read = sheet::read_sheet(text, targets, costs);
+    let answer = read.answer;
+    let size = read.size;
+    let first = size.start;
+    *line = read.line;
+    *states = size.states;
+    *values = size.values;
+    *start = first.0;
+    *accepting = read.accepting;
+    answer.number() as u32
+}
+
+#[no_mangle]
+pub extern "C" fn reedgosling_write_sheet(
+    states: usize,
+    values: usize,
+    start: u8,
+    targets: &[u8],
+    costs: &[u16],
+    accepting: u64,
+    buffer: &mut [u8],
+    length: &mut usize,
+) -> u32
+    ensures { λ r. ⌜ writeLeft r (now (length .exit)) (now (buffer .exit)) ≡ writeOf (rulesOf states values (now (targets .entry)) (now (costs .entry)) accepting) start (now (buffer .entry)) ⌝ }
+{
+    let size = Size {
+        states,
+        values,
+        start: State(start),
+    };
+    let written = scribe::write_sheet(size, targets, costs, accepting, buffer);
+    let answer = written.answer;
+    *length = written.length;
+    answer.number() as u32
+}
+
+#[no_mangle]
+pub extern "C" fn reedgosling_open(
+    places: usize,
+    states: usize,
+    values: usize,
+    start: u8,
+    targets: &[u8],
+    costs: &[u16],
+    accepting: u64,
+    masks: &[u16],
+    limits: &[u32],
+    memory: &mut [u32],
+    work: &mut [u32],
+) -> u32
+    ensures { λ r. ⌜ leftIn r (now (memory .exit)) (now (work .exit)) ≡ opened (handed places states values start (now (targets .entry)) (now (costs .entry)) accepting) (opening (now (masks .entry)) (now (limits .entry))) (now (memory .entry)) (now (work .entry)) ⌝ }
+{
+    let size = Size {
+        states,
+        values,
+        start: State(start),
+    };
+    let answer = session::open(
+        places,
+        size,
+        targets,
+        costs,
+        accepting,
+        masks,
+        limits,
+        memory,
+        work,
+    );
+    answer.number() as u32
+}
+
+#[no_mangle]
+pub extern "C" fn reedgosling_keep(
+    places: usize,
+    states: usize,
+    values: usize,
+    start: u8,
+    targets: &[u8],
+    costs: &[u16],
+    accepting: u64,
+    memory: &mut [u32],
+    work: &mut [u32],
+    place: usize,
+    mask: u16,
+) -> u32
+    ensures { λ r. ⌜ leftIn r (now (memory .exit)) (now (work .exit)) ≡ called (handed places states values start (now (targets .entry)) (now (costs .entry)) accepting) (deciding (Keep place mask)) (now (memory .entry)) (now (work .entry)) ⌝ }
+{
+    let size = Size {
+        states,
+        values,
+        start: State(start),
+    };
+    let answer = session::keep(
+        places,
+        size,
+        targets,
+        costs,
+        accepting,
+        place,
+        mask,
+        memory,
+        work,
+    );
+    answer.number() as u32
+}
+
+#[no_mangle]
+pub extern "C" fn reedgosling_limit(
+    places: usize,
+    states: usize,
+    values: usize,
+    start: u8,
+    targets: &[u8],
+    costs: &[u16],
+    accepting: u64,
+    memory: &mut [u32],
+    work: &mut [u32],
+    place: usize,
+    cost: u32,
+) -> u32
+    ensures { λ r. ⌜ leftIn r (now (memory .exit)) (now (work .exit)) ≡ called (handed places states values start (now (targets .entry)) (now (costs .entry)) accepting) (deciding (Limit place cost)) (now (memory .entry)) (now (work .entry)) ⌝ }
+{
+    let size = Size {
+        states,
+        values,
+        start: State(start),
+    };
+    let answer = session::limit(
+        places,
+        size,
+        targets,
+        costs,
+        accepting,
+        place,
+        cost,
+        memory,
+        work,
+    );
+    answer.number() as u32
+}
+
+#[no_mangle]
+pub extern "C" fn reedgosling_mark(
+    places: usize,
+    states: usize,
+    values: usize,
+    start: u8,
+    targets: &[u8],
+    costs: &[u16],
+    accepting: u64,
+    memory: &mut [u32],
+    work: &mut [u32],
+) -> u32
+    ensures { λ r. ⌜ leftIn r (now (memory .exit)) (now (work .exit)) ≡ called (handed places states values start (now (targets .entry)) (now (costs .entry)) accepting) marking (now (memory .entry)) (now (work .entry)) ⌝ }
+{
+    let size = Size {
+        states,
+        values,
+        start: State(start),
+    };
+    let answer = session::mark(places, size, targets, costs, accepting, memory, work);
+    answer.number() as u32
+}
+
+#[no_mangle]
+pub extern "C" fn reedgosling_back(
+    places: usize,
+    states: usize,
+    values: usize,
+    start: u8,
+    targets: &[u8],
+    costs: &[u16],
+    accepting: u64,
+    memory: &mut [u32],
+    work: &mut [u32],
+) -> u32
+    ensures { λ r. ⌜ leftIn r (now (memory .exit)) (now (work .exit)) ≡ called (handed places states values start (now (targets .entry)) (now (costs .entry)) accepting) goingBack (now (memory .entry)) (now (work .entry)) ⌝ }
+{
+    let size = Size {
+        states,
+        values,
+        start: State(start),
+    };
+    let answer = session::back(places, size, targets, costs, accepting, memory, work);
     answer.number() as u32
 }

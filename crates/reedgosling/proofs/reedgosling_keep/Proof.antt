@@ -1,0 +1,26 @@
+use borrow.Author.Needs.{needs}
+use Rattle.reedgosling.proofs.reedgosling_keep.Statement.{statement}
+use Rattle.reedgosling.proofs.reedgosling_keep.Tie as tie
+
+keep-requires : tie.Need-keep-requires
+keep-requires c κs = search needs
+
+number-requires : tie.Need-number-requires
+number-requires c κs = search needs
+
+cast-result : tie.Need-cast-result
+cast-result c = search needs
+
+same-length : tie.Need-same-length
+same-length c = search needs
+
+same-length-2 : tie.Need-same-length-2
+same-length-2 c = search needs
+
+returns : tie.Need-returns
+returns c = rw (c .number .ensures) (c .before .before .before .before .before .keep .ensures)
+
+pub reedgosling-keep-spec : {M : Type 1} → statement M
+reedgosling-keep-spec =
+    tie.close
+    (tie.spec keep-requires number-requires cast-result same-length same-length-2 returns)
