@@ -22,11 +22,6 @@ filled-more {f} {n} {was} {is} x h r e = record { done = λ k l. go k l (ℕ-dis
 pub filled-end : {f : ℕ → ℕ} {i n : ℕ} {was is : List ℕ} → Filled f i was is → i ≤ n → n ≤ i → Filled f n was is
 filled-end {f} {i} {n} r h k = let e : i ≡ n = omega arith in rw e at r
 
--- one filling upon another
-pub filled-then : {f g : ℕ → ℕ} {n : ℕ} {was mid is : List ℕ} (h : ℕ → ℕ) → Filled f n was mid → Filled g n mid is
-    → ((k : ℕ) → k < n → getD mid k 0 ≡ f k → g k ≡ h k) → Filled h n was is
-filled-then h a b e = record { done = λ k l. b .done k l ∙ e k l (a .done k l); left = λ k l. b .left k l ∙ a .left k l }
-
 pub filled-zeros : {was is : List ℕ} → length is ≡ length was → Filled (λ k. 0) (length was) was is → is ≡ replicate (length was) 0
 filled-zeros {was} {is} e r =
     ext-getD 0 is (replicate (length was) 0) (e ∙ sym (length-replicate (length was) 0))

@@ -139,15 +139,6 @@ allowed-lower r q c d (p ∷ ps) (v ∷ w) h e =
       rest = allowed-lower r (target (r .arcs) q v) (c + cost (r .arcs) q v) (d + cost (r .arcs) q v) ps w (omega arith) (g .rest);
     })
 
--- no roster passes the top
-pub total-most : (r : Rules) (q c : ℕ) (ps : List Place) (w : List ℕ) → c ≤ top → allowed r q c ps w ≡ true → total (r .arcs) q c w ≤ top
-total-most r q c [] [] h e = h
-total-most r q c [] (v ∷ w) h e = absurd (false≢true e)
-total-most r q c (p ∷ ps) [] h e = absurd (false≢true e)
-total-most r q c (p ∷ ps) (v ∷ w) h e =
-    let g = goes r q c p v ps w .0 e in
-    total-most r (target (r .arcs) q v) (c + cost (r .arcs) q v) ps w (omega (arith, g .within)) (g .rest)
-
 -- a bit, by the code's test
 pub bit-yes : (m v : ℕ) → bitAnd (m / 2 ^ v) 1 ≡ 1 → bit m v ≡ true
 bit-yes m v h = sym (bit-test m v) ∙ eq-eqb _ _ h
