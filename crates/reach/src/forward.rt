@@ -16,7 +16,7 @@ use rooms::rows;
 use rules::bounds;
 
 // The least costs, lowered by the arcs on one value.
-pub fn push(states: usize, targets: &[u8], costs: &[u16], front: &[u32], onward: &mut [u32])
+pub(crate) fn push(states: usize, targets: &[u8], costs: &[u16], front: &[u32], onward: &mut [u32])
     requires { ⌜ (states ≤ length (now targets)) × (states ≤ length (now costs)) × (states ≤ length (now front)) × (length (now onward) ≡ 256) × Low states (now front) ⌝ }
     ensures { λ _. ⌜ Pushed (now (targets .entry)) (now (costs .entry)) (now (front .entry)) states (now (onward .entry)) (now (onward .exit)) ⌝ }
 {
@@ -30,7 +30,7 @@ pub fn push(states: usize, targets: &[u8], costs: &[u16], front: &[u32], onward:
 }
 
 // Whether the arc of a state leaves a way to the end.
-pub fn joins_at(targets: &[u8], costs: &[u16], front: &[u32], next: &[u32], q: State) -> bool
+pub(crate) fn joins_at(targets: &[u8], costs: &[u16], front: &[u32], next: &[u32], q: State) -> bool
     requires { ⌜ (q .0 < length (now targets)) × (q .0 < length (now costs)) × (q .0 < length (now front)) × (length (now next) ≡ 256) × (getD (now front) (q .0) 0 ≤ suc top) ⌝ }
     ensures { λ r. ⌜ r ≡ ltb (getD (now (front .entry)) (q .0) 0 + getD (now (costs .entry)) (q .0) 0) (getD (now (next .entry)) (getD (now (targets .entry)) (q .0) 0) 0) ⌝ }
 {
@@ -40,7 +40,7 @@ pub fn joins_at(targets: &[u8], costs: &[u16], front: &[u32], next: &[u32], q: S
 }
 
 // A state whose arc leaves a way to the end, the one to try first before all others; the number of states, where there is none.
-pub fn support(
+pub(crate) fn support(
     states: usize,
     targets: &[u8],
     costs: &[u16],
@@ -67,7 +67,7 @@ pub fn support(
 }
 
 // Whether a value is kept; its support is noted, to be tried first at the next place.
-pub fn supported(
+pub(crate) fn supported(
     states: usize,
     targets: &[u8],
     costs: &[u16],
@@ -86,21 +86,21 @@ pub fn supported(
 }
 
 // A mask with a value more, if it is kept.
-pub fn marked(kept: Mask, v: Value, on: bool) -> Mask
+pub(crate) fn marked(kept: Mask, v: Value, on: bool) -> Mask
     ensures { λ r. ⌜ r .0 ≡ maskOf (λ u. bit (kept .0) u || (on && eqb u (v .0))) width ⌝ }
 {
     if on { kept.put(v) } else { kept }
 }
 
 // A cost, one more than the top where it leaves no room.
-pub fn strike(cost: u32, room: u32) -> u32
+pub(crate) fn strike(cost: u32, room: u32) -> u32
     ensures { λ r. ⌜ r ≡ struck cost room ⌝ }
 {
     if cost < room { cost } else { TOP + 1 }
 }
 
 // The front one place on.
-pub fn settle(states: usize, onward: &[u32], next: &[u32], front: &mut [u32])
+pub(crate) fn settle(states: usize, onward: &[u32], next: &[u32], front: &mut [u32])
     requires { ⌜ (states ≤ length (now onward)) × (states ≤ length (now next)) × (states ≤ length (now front)) ⌝ }
     ensures { λ _. ⌜ Filled (λ q. struck (getD (now (onward .entry)) q 0) (getD (now (next .entry)) q 0)) states (now (front .entry)) (now (front .exit)) ⌝ }
 {
@@ -112,7 +112,7 @@ pub fn settle(states: usize, onward: &[u32], next: &[u32], front: &mut [u32])
 }
 
 // The least cost of a front.
-pub fn cheapest(states: usize, front: &[u32]) -> u32
+pub(crate) fn cheapest(states: usize, front: &[u32]) -> u32
     requires { ⌜ states ≤ length (now front) ⌝ }
     ensures { λ r. ⌜ r ≡ lowest (now (front .entry)) states ⌝ }
 {
@@ -126,7 +126,7 @@ pub fn cheapest(states: usize, front: &[u32]) -> u32
 }
 
 // The looks at the values of a mask: the least costs one place on, and the mask of the values that are kept.
-pub fn sweep(
+pub(crate) fn sweep(
     states: usize,
     values: usize,
     targets: &[u8],
@@ -164,7 +164,7 @@ pub fn sweep(
 }
 
 // The front before the first place: the start alone, at the cost already spent, if a roster goes on from there.
-pub fn open_front(states: usize, start: State, spent: u32, room: u32, front: &mut [u32])
+pub(crate) fn open_front(states: usize, start: State, spent: u32, room: u32, front: &mut [u32])
     requires { ⌜ (start .0 < states) × (states ≤ length (now front)) ⌝ }
     ensures { λ _. ⌜ Opened states (start .0) spent room (now (front .exit)) ⌝ }
 {
@@ -173,7 +173,7 @@ pub fn open_front(states: usize, start: State, spent: u32, room: u32, front: &mu
 }
 
 // One place: gives its kept mask, and moves the front one place on.
-pub fn step(
+pub(crate) fn step(
     states: usize,
     values: usize,
     targets: &[u8],

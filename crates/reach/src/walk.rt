@@ -12,7 +12,7 @@ use rooms::rows;
 use rules::bounds;
 
 // Whether a value can be taken at a state, with a cost spent, so that a roster goes on.
-pub fn fits(
+pub(crate) fn fits(
     targets: &[u8],
     costs: &[u16],
     next: &[u32],

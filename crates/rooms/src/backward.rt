@@ -15,7 +15,7 @@ use rules::bounds;
 pub const TOP: u32 = (bounds::MOST_PLACES as u32) * (bounds::MOST_COST as u32);
 
 // The room after the last place.
-pub fn ending(accepting: u64, cap: u32, q: usize) -> u32
+pub(crate) fn ending(accepting: u64, cap: u32, q: usize) -> u32
     requires { ⌜ q < mostStates ⌝ }
     ensures { λ r. ⌜ r ≡ cond (bit accepting q) cap 0 ⌝ }
 {
@@ -23,7 +23,7 @@ pub fn ending(accepting: u64, cap: u32, q: usize) -> u32
 }
 
 // The row of the last layer.
-pub fn ends(states: usize, accepting: u64, cap: u32, row: &mut [u32])
+pub(crate) fn ends(states: usize, accepting: u64, cap: u32, row: &mut [u32])
     requires { ⌜ (states ≤ mostStates) × (states ≤ length (now row)) ⌝ }
     ensures { λ _. ⌜ Filled (λ q. cond (bit accepting q) cap 0) states (now (row .entry)) (now (row .exit)) ⌝ }
 {
@@ -35,7 +35,7 @@ pub fn ends(states: usize, accepting: u64, cap: u32, row: &mut [u32])
 }
 
 // A row raised to what one value leaves.
-pub fn raise(states: usize, targets: &[u8], costs: &[u16], next: &[u32], row: &mut [u32])
+pub(crate) fn raise(states: usize, targets: &[u8], costs: &[u16], next: &[u32], row: &mut [u32])
     requires { ⌜ (states ≤ length (now targets)) × (states ≤ length (now costs)) × (256 ≤ length (now next)) × (states ≤ length (now row)) ⌝ }
     ensures { λ _. ⌜ Filled (λ q. max (getD (now (next .entry)) (getD (now (targets .entry)) q 0) 0 - getD (now (costs .entry)) q 0) (getD (now (row .entry)) q 0)) states (now (row .entry)) (now (row .exit)) ⌝ }
 {
@@ -48,7 +48,7 @@ pub fn raise(states: usize, targets: &[u8], costs: &[u16], next: &[u32], row: &m
 }
 
 // A row cut at the limit of the step into it.
-pub fn cut(states: usize, cap: u32, row: &mut [u32])
+pub(crate) fn cut(states: usize, cap: u32, row: &mut [u32])
     requires { ⌜ states ≤ length (now row) ⌝ }
     ensures { λ _. ⌜ Filled (λ q. min cap (getD (now (row .entry)) q 0)) states (now (row .entry)) (now (row .exit)) ⌝ }
 {
@@ -60,7 +60,7 @@ pub fn cut(states: usize, cap: u32, row: &mut [u32])
 }
 
 // The row of a layer, from the row of the next: the best that the mask's values leave, behind the limit of the step into it.
-pub fn fill_row(
+pub(crate) fn fill_row(
     states: usize,
     values: usize,
     targets: &[u8],
@@ -87,7 +87,7 @@ pub fn fill_row(
 }
 
 // One more than the limit of the step into layer i, 366,000 at most.
-pub fn cap_at(limits: &[u32], i: usize) -> u32
+pub(crate) fn cap_at(limits: &[u32], i: usize) -> u32
     requires { ⌜ i ≤ length (now limits) ⌝ }
     ensures { λ r. ⌜ r ≡ suc (min (before (now (limits .entry)) i) top) ⌝ }
 {
@@ -98,7 +98,7 @@ pub fn cap_at(limits: &[u32], i: usize) -> u32
 }
 
 // The row of layer i, laid in the work table and loaded by itself.
-pub fn fill_layer(
+pub(crate) fn fill_layer(
     states: usize,
     values: usize,
     targets: &[u8],
@@ -128,7 +128,7 @@ pub fn fill_layer(
 }
 
 // The row of the last layer, likewise.
-pub fn fill_last(
+pub(crate) fn fill_last(
     states: usize,
     accepting: u64,
     cap: u32,

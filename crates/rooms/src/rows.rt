@@ -13,14 +13,14 @@ pub fn lesser(a: u32, b: u32) -> u32
 }
 
 // The greater of two numbers.
-pub fn greater(a: u32, b: u32) -> u32
+pub(crate) fn greater(a: u32, b: u32) -> u32
     ensures { λ r. ⌜ r ≡ max a b ⌝ }
 {
     if a < b { b } else { a }
 }
 
 // What is left of a number; 0, where less is there than is taken.
-pub fn less(a: u32, b: u32) -> u32
+pub(crate) fn less(a: u32, b: u32) -> u32
     ensures { λ r. ⌜ r ≡ a - b ⌝ }
 {
     if a < b { 0 } else { a - b }

@@ -9,7 +9,7 @@ use kinds::Value;
 use rules::bounds;
 
 // The arcs on one value.
-pub fn turn_value(
+pub(crate) fn turn_value(
     states: usize,
     values: usize,
     targets: &[u8],
