@@ -1,13 +1,10 @@
 /* sheet PROVED|PLAIN SHEET SECONDS: reads a sheet again and again, and prints bytes a second. PLAIN is a reader of the same format in
    plain C: every line judged by form, range and order, then the tables filled; nothing is written where a line is wrong. */
-#include <stdint.h>
+#include "reedgosling.h"
 #include <stdio.h>
 #include <string.h>
 #include <stdlib.h>
 #include <time.h>
-
-uint32_t reedgosling_read_sheet(const uint8_t *text, size_t length, uint8_t *targets, size_t targets_length, uint16_t *costs,
-    size_t costs_length, size_t *line, size_t *states, size_t *values, uint8_t *start, uint64_t *accepting);
 
 static const uint8_t *number(const uint8_t *p, const uint8_t *end, uint32_t least, uint32_t most, uint32_t *out)
 {
