@@ -9,7 +9,8 @@
    - A pointer is aligned for its type and is not null, also where the length is 0 (then nothing is read or written through it).
    - What a call writes overlaps with nothing else that is handed to the same call. What is only read may overlap.
    - No other thread writes what is lent while the call runs, nor reads what is written. The library holds nothing between calls, so calls
-     that are lent different memory may run at the same time. */
+     that are lent different memory may run at the same time.
+   - There is stack enough: 128 kilobytes are (tools/check-c). */
 #ifndef REEDGOSLING_H
 #define REEDGOSLING_H
 
