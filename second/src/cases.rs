@@ -1,7 +1,9 @@
-//! Random problems for tests and comparisons, right ones and damaged ones.
+//! Random problems for tests and scripts.
+
+pub mod damage;
 
 use crate::random::Random;
-use crate::rules::{check_places, work_length, Case, Rules};
+use crate::rules::{work_length, Case, Rules};
 use crate::rules::{MOST_COST, MOST_LIMIT, MOST_PLACES, MOST_STATES, MOST_VALUES, NO_ARC, TABLE};
 use crate::worked::w;
 
@@ -25,15 +27,13 @@ impl Scale {
         }
     }
 
+    /// Mostly small, since a script of full problems would be long.
     pub fn any(random: &mut Random) -> Scale {
-        random.pick(&[
-            Scale::Small,
-            Scale::Small,
-            Scale::Small,
-            Scale::Middle,
-            Scale::Middle,
-            Scale::Full,
-        ])
+        match random.below(100) {
+            0..=2 => Scale::Full,
+            3..=14 => Scale::Middle,
+            _ => Scale::Small,
+        }
     }
 }
 
@@ -51,14 +51,8 @@ impl Problem {
         Case { rules: &self.rules, masks: &self.masks, limits: &self.limits }
     }
 
-    /// Whether answers 1 to 4 do not concern the problem, so that it has a meaning.
     pub fn is_right(&self) -> bool {
-        check_places(self.places).is_ok()
-            && self.rules.check_sizes().is_ok()
-            && self.rules.check_lengths().is_ok()
-            && (self.masks.len(), self.limits.len()) == (self.places, self.places)
-            && self.rules.check_tables().is_ok()
-            && self.rules.check_masks(&self.masks).is_ok()
+        self.case().is_right(self.places)
     }
 }
 
@@ -71,19 +65,21 @@ fn size(random: &mut Random, most: usize) -> usize {
     }
 }
 
-/// A right rule set. What stands past the places that play a part is anything.
+/// A right rule set. What stands past the places that play a part is one number throughout,
+/// mostly one that would be wrong if it played a part.
 pub fn rules(random: &mut Random, scale: Scale) -> Rules {
     if random.percent(10) {
         return w();
     }
     let (_, most_states, most_values) = scale.most();
     let (states, values) = (size(random, most_states), size(random, most_values));
+    let (target, cost) = random.pick(&[(77, 7_777), (77, 7_777), (77, 7_777), (NO_ARC, 1), (0, 0)]);
     let mut rules = Rules {
         states,
         values,
         start: random.below(states) as u8,
-        targets: (0..TABLE).map(|_| random.number() as u8).collect(),
-        costs: (0..TABLE).map(|_| random.number() as u16).collect(),
+        targets: vec![target; TABLE],
+        costs: vec![cost; TABLE],
         accepting: random.number() & states_mask(states),
     };
     let arcs_in_100 = random.pick(&[30, 60, 90, 100]);
@@ -209,85 +205,22 @@ fn near(random: &mut Random, number: u32) -> u32 {
     }
 }
 
-/// A work table for a problem, mostly dirty.
+/// A work table for a problem, mostly dirty: one number throughout, or a few among zeros.
 pub fn work(random: &mut Random, places: usize) -> Vec<u32> {
     let length = work_length(places);
-    match random.below(4) {
-        0 => vec![0; length],
-        1 => vec![u32::MAX; length],
-        _ => (0..length).map(|_| random.number() as u32).collect(),
+    let number = random.pick(&[0, 1, 366_000, u32::MAX]);
+    let mut work = vec![number; length];
+    if random.percent(50) {
+        work.fill(0);
+        let dirt = random.from_to(1, 3);
+        (0..dirt).for_each(|_| work[random.below(length)] = random.number() as u32);
     }
-}
-
-/// Another length, mostly off by one. What is added is the default.
-pub fn damage_length<T: Clone + Default>(random: &mut Random, slice: &mut Vec<T>) {
-    match random.below(8) {
-        0..=2 => slice.truncate(slice.len().saturating_sub(1)),
-        3..=5 => slice.push(T::default()),
-        6 => slice.clear(),
-        _ => slice.resize(2 * slice.len() + 1, T::default()),
-    }
-}
-
-/// Other sizes: outside the range, off by one, or right only if cut to fewer bits.
-pub fn damage_sizes(random: &mut Random, places: &mut usize, rules: &mut Rules) {
-    match random.below(8) {
-        0 => *places = wrong_size(random, *places, 367),
-        1 => *places = beside(random, *places),
-        2 => rules.states = wrong_size(random, rules.states, 65),
-        3 => rules.states = beside(random, rules.states),
-        4 => rules.values = wrong_size(random, rules.values, 17),
-        5 => rules.values = beside(random, rules.values),
-        6 => rules.start = random.pick(&[rules.states as u8, 64, NO_ARC]),
-        _ => rules.start = random.below(MOST_STATES) as u8,
-    }
-}
-
-fn wrong_size(random: &mut Random, right: usize, first_above: usize) -> usize {
-    let cut_right =
-        [right.wrapping_add(1 << 8), right.wrapping_add(1 << 16), right.wrapping_add(1 << 32)];
-    let cut_right = random.pick(&cut_right);
-    random.pick(&[0, first_above, first_above + 1, usize::MAX, cut_right])
-}
-
-fn beside(random: &mut Random, number: usize) -> usize {
-    random.pick(&[number.wrapping_sub(1), number.wrapping_add(1)])
-}
-
-/// One number of the tables changed, mostly to something wrong. It may be past the places
-/// that play a part.
-pub fn damage_tables(random: &mut Random, rules: &mut Rules) {
-    let arcs = rules.states.saturating_mul(rules.values).clamp(1, TABLE - 1);
-    let any = random.below(arcs);
-    let place = random.pick(&[any, any, 0, arcs - 1, arcs]);
-    if place >= rules.targets.len() || place >= rules.costs.len() {
-        return;
-    }
-    match random.below(8) {
-        0 => rules.targets[place] = rules.states as u8,
-        1 => rules.targets[place] = random.pick(&[64, 128, 254]),
-        2 => rules.targets[place] = NO_ARC,
-        3 => rules.costs[place] = MOST_COST,
-        4 => rules.costs[place] = random.pick(&[MOST_COST + 1, u16::MAX]),
-        5 => rules.accepting |= 1 << random.pick(&[rules.states.min(63), 63]),
-        6 => rules.accepting ^= 1 << random.below(MOST_STATES),
-        _ => {
-            rules.targets[place] = random.below(rules.states.clamp(1, 256)) as u8;
-            rules.costs[place] = random.below(8) as u16;
-        }
-    }
-}
-
-/// A bit at or above V in one mask, if there is room for one.
-pub fn damage_masks(random: &mut Random, rules: &Rules, masks: &mut [u16]) {
-    let bit = random.pick(&[rules.values, 15]);
-    if (rules.values..MOST_VALUES).contains(&bit) && !masks.is_empty() {
-        masks[random.below(masks.len())] |= 1 << bit;
-    }
+    work
 }
 
 #[cfg(test)]
 mod tests {
+    use super::damage::{another_length, damage_masks, damage_sizes, damage_tables};
     use super::*;
 
     #[test]
@@ -302,7 +235,10 @@ mod tests {
                 0 => damage_sizes(&mut random, &mut problem.places, &mut problem.rules),
                 1 => damage_tables(&mut random, &mut problem.rules),
                 2 => damage_masks(&mut random, &problem.rules, &mut problem.masks),
-                _ => damage_length(&mut random, &mut problem.limits),
+                _ => {
+                    let length = another_length(&mut random, problem.places);
+                    problem.limits.resize(length, 0);
+                }
             }
             refused += usize::from(!problem.is_right());
         }

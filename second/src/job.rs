@@ -111,6 +111,7 @@ impl Job {
 #[cfg(test)]
 mod tests {
     use super::*;
+    use crate::samples::{WRONG_DAYS_LINES, WRONG_JOB_LINES};
     use crate::worked::W;
 
     fn print(input: &str) -> String {
@@ -219,38 +220,10 @@ mod tests {
 
     #[test]
     fn wrong_job_lines_by_form_range_and_line_feed() {
-        let wrong_days = [
-            "days\t0\n",
-            "days\t129\n",
-            "days\t3",
-            "days\n",
-            "days\t3\t\n",
-            "Days\t3\n",
-            "day\t3\n",
-            "keep\t0\t1\n",
-            "days 3\n",
-            "days\t\n",
-            "days\t99999999999999999999\n",
-        ];
-        for line in wrong_days {
+        for line in WRONG_DAYS_LINES {
             assert_eq!(on_w(line), "job\t1\n", "{line:?}");
         }
-        let wrong = [
-            "keep\t3\t1\n",
-            "keep\t0\t8\n",
-            "keep\t0\t65536\n",
-            "limit\t3\t1\n",
-            "keep\t0\n",
-            "limit\t0\t4294967296\n",
-            "limit\t0\t99999999999999999999\n",
-            "keep\t0\t1\t\n",
-            "keep\t0\t1",
-            "limit\t0\n",
-            "mark\n",
-            "days\t3\n",
-            "keep\t0\t1\r\n",
-        ];
-        for line in wrong {
+        for line in WRONG_JOB_LINES {
             assert_eq!(on_w(&format!("days\t3\nkeep\t0\t7\n{line}")), "job\t3\n", "{line:?}");
         }
     }

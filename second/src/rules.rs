@@ -45,6 +45,11 @@ impl Rules {
         require(arcs_right && accepting_right, Answer::Tables)
     }
 
+    /// Whether answers 1, 2 and 3 do not concern the rules.
+    pub fn is_right(&self) -> bool {
+        self.check_sizes().is_ok() && self.check_lengths().is_ok() && self.check_tables().is_ok()
+    }
+
     fn arc_is_right(&self, place: usize) -> bool {
         let (target, cost) = (self.targets[place], self.costs[place]);
         if target == NO_ARC {
@@ -110,6 +115,15 @@ pub struct Case<'a> {
 impl Case<'_> {
     pub fn places(&self) -> usize {
         self.masks.len()
+    }
+
+    /// Whether answers 1 to 4 do not concern the case with this many places, so that it has a
+    /// meaning.
+    pub fn is_right(&self, places: usize) -> bool {
+        check_places(places).is_ok()
+            && (self.masks.len(), self.limits.len()) == (places, places)
+            && self.rules.is_right()
+            && self.rules.check_masks(self.masks).is_ok()
     }
 
     pub fn limit(&self, place: usize) -> u32 {

@@ -13,6 +13,14 @@ pub struct Carried {
     pub accepting: u64,
 }
 
+impl Carried {
+    /// In the order in which an answered reading carries them.
+    pub fn numbers(&self) -> [u64; 5] {
+        let [line, states, values] = [self.line, self.states, self.values].map(|n| n as u64);
+        [line, states, values, u64::from(self.start), self.accepting]
+    }
+}
+
 /// A line without its line feed, and whether it had one.
 pub struct Line<'a> {
     pub text: &'a [u8],
@@ -182,9 +190,18 @@ pub fn write_sheet(rules: &Rules, buffer: &mut [u8]) -> (Answer, usize) {
     (Answer::Done, text.len())
 }
 
+/// Whether the sheet of a right rule set is read as the same rules.
+pub fn reads_back(rules: &Rules) -> bool {
+    let mut expected = rules.clone();
+    expected.targets.truncate(rules.states * rules.values);
+    expected.costs.truncate(rules.states * rules.values);
+    parse(sheet_of(rules).as_bytes()) == Ok(expected)
+}
+
 #[cfg(test)]
 mod tests {
     use super::*;
+    use crate::samples::{OUT_OF_ORDER, RIGHT_SHEETS, WRONG_LATER_LINES, WRONG_SIZE_LINES};
     use crate::worked::{w, W};
 
     fn wrong_line(text: &str) -> usize {
@@ -253,83 +270,30 @@ mod tests {
 
     #[test]
     fn no_final_line_and_no_arc_line_is_lawful() {
-        assert!(is_right("size\t1\t1\t0\n"));
-        assert!(is_right("size\t64\t16\t63\n"));
-        assert!(is_right("size\t2\t2\t1\narc\t1\t1\t0\t1000\n"));
+        for text in RIGHT_SHEETS {
+            assert!(is_right(text), "{text:?}");
+        }
     }
 
     #[test]
     fn wrong_size_lines() {
-        let wrong = [
-            "",
-            "\n",
-            "size\t6\t3\t0",
-            "size\t0\t3\t0\n",
-            "size\t65\t3\t0\n",
-            "size\t6\t0\t0\n",
-            "size\t6\t17\t0\n",
-            "size\t6\t3\t6\n",
-            "size\t06\t3\t0\n",
-            "size\t6\t3\n",
-            "size\t6\t3\t0\t\n",
-            "size\t6\t3\t0\t0\n",
-            "size 6 3 0\n",
-            "Size\t6\t3\t0\n",
-            "size\t6\t3\t0\r\n",
-            " size\t6\t3\t0\n",
-            "size\t\t6\t3\t0\n",
-            "size\t+6\t3\t0\n",
-            "final\t0\n",
-            "size\t6\t3\t\n",
-            "size\t6\t3\t00\n",
-            "sizes\t6\t3\t0\n",
-            "size\t18446744073709551622\t3\t0\n",
-            "size\t6\t3\t0\0\n",
-        ];
-        for text in wrong {
+        for text in WRONG_SIZE_LINES {
             assert_eq!(wrong_line(text), 1);
         }
     }
 
     #[test]
     fn wrong_later_lines_by_form_range_order_and_line_feed() {
-        let wrong = [
-            "\n",
-            "size\t6\t3\t0\n",
-            "final\t6\n",
-            "final\t0",
-            "final\n",
-            "final\t\n",
-            "final\t0\t\n",
-            "final\t01\n",
-            "final\t-1\n",
-            "arc\t0\t0\t1\n",
-            "arc\t6\t0\t1\t1\n",
-            "arc\t0\t3\t1\t1\n",
-            "arc\t0\t0\t6\t1\n",
-            "arc\t0\t0\t255\t0\n",
-            "arc\t0\t0\t1\t1001\n",
-            "arc\t0\t0\t1\t1\t\n",
-            "arc\t0\t0\t1\t1",
-            "ark\t0\t0\t1\t1\n",
-            "arc\t0\t0\t1\t99999999999999999999\n",
-        ];
-        for line in wrong {
+        for line in WRONG_LATER_LINES {
             assert_eq!(wrong_line(&format!("size\t6\t3\t0\n{line}")), 2, "{line:?}");
         }
     }
 
     #[test]
     fn order_is_rising_without_repetition() {
-        let start = "size\t6\t3\t0\nfinal\t2\n";
-        for line in ["final\t2\n", "final\t1\n"] {
-            assert_eq!(wrong_line(&format!("{start}{line}")), 3, "{line:?}");
+        for (text, line) in OUT_OF_ORDER {
+            assert_eq!(wrong_line(text), *line, "{text:?}");
         }
-        let start = start.to_owned() + "arc\t1\t1\t0\t0\n";
-        for line in ["arc\t1\t1\t0\t0\n", "arc\t1\t0\t0\t0\n", "arc\t0\t2\t0\t0\n", "final\t3\n"] {
-            assert_eq!(wrong_line(&format!("{start}{line}")), 4, "{line:?}");
-        }
-        assert!(is_right(&format!("{start}arc\t1\t2\t0\t0\narc\t2\t0\t0\t0\n")));
     }
 
     #[test]

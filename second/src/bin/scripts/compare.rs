@@ -1,0 +1,111 @@
+//! Scripts carried out by another program, and what it prints held against what it must print.
+
+use second::script::{Case, Printed, Script};
+use second::scripts::Cases;
+use std::collections::BTreeMap;
+use std::io::{self, Read, Write};
+use std::process::{Command, Stdio};
+use std::thread;
+
+/// A script is carried out once it has as many bytes.
+const ENOUGH_BYTES: usize = 400_000;
+const DIFFERENCES_PRINTED: usize = 3;
+
+/// Whether a program prints what it must, told on standard output.
+pub fn compare(mut cases: Cases, program: &str, arguments: &[&str]) -> io::Result<bool> {
+    let mut watch = Watch::default();
+    loop {
+        let mut script = Script::default();
+        while script.bytes() < ENOUGH_BYTES && cases.add_next(&mut script) {}
+        if script.cases().is_empty() {
+            break;
+        }
+        let mut command = Command::new(program);
+        let (printed, ended_well) = run(command.args(arguments), script.text())?;
+        watch.hold_against(&script, &printed);
+        if !ended_well {
+            watch.fail("the program ended with a failure");
+        }
+    }
+    watch.print_tally();
+    println!("{} passed, {} failed", watch.passed, watch.failed);
+    Ok(watch.failed == 0)
+}
+
+/// What a program prints with this input, and whether it ended well. It may end without having
+/// read all of it: then lines are missing, which the comparison sees.
+fn run(command: &mut Command, input: Vec<u8>) -> io::Result<(Vec<u8>, bool)> {
+    let mut child = command.stdin(Stdio::piped()).stdout(Stdio::piped()).spawn()?;
+    let mut stdin = child.stdin.take().expect("standard input is a pipe");
+    let mut stdout = child.stdout.take().expect("standard output is a pipe");
+    let writer = thread::spawn(move || stdin.write_all(&input));
+    let mut printed = Vec::new();
+    stdout.read_to_end(&mut printed)?;
+    let ended_well = child.wait()?.success();
+    match writer.join().expect("writing does not panic") {
+        Err(error) if error.kind() != io::ErrorKind::BrokenPipe => Err(error),
+        _ => Ok((printed, ended_well)),
+    }
+}
+
+/// What has been seen so far.
+#[derive(Default)]
+struct Watch {
+    passed: usize,
+    failed: usize,
+    /// How often each call came to each result.
+    tally: BTreeMap<(&'static str, String), usize>,
+}
+
+impl Watch {
+    fn hold_against(&mut self, script: &Script, printed: &[u8]) {
+        let mut lines = printed.split_inclusive(|byte| *byte == b'\n');
+        for case in script.cases() {
+            for expected in &case.printed {
+                self.hold_line(case, expected, lines.next());
+            }
+        }
+        for line in lines {
+            self.fail(&format!("a line too many: {}", line.escape_ascii()));
+        }
+    }
+
+    /// A line that no call printed counts only if it is wrong.
+    fn hold_line(&mut self, case: &Case, expected: &Printed, line: Option<&[u8]>) {
+        if let Some(call) = &expected.call {
+            *self.tally.entry(call.clone()).or_default() += 1;
+        }
+        let should = format!("{}\n", expected.line);
+        if line == Some(should.as_bytes()) {
+            self.passed += usize::from(expected.call.is_some());
+            return;
+        }
+        let is = line.map_or("nothing more".to_owned(), |line| line.escape_ascii().to_string());
+        let should = should.escape_default();
+        self.fail(&format!(
+            "{}:\n  printed   {is}\n  should be {should}{}",
+            case.name,
+            lines_of(case)
+        ));
+    }
+
+    /// Only the first failures are described.
+    fn fail(&mut self, description: &str) {
+        self.failed += 1;
+        if self.failed <= DIFFERENCES_PRINTED {
+            println!("{description}");
+        }
+    }
+
+    fn print_tally(&self) {
+        for ((call, came_to), count) in &self.tally {
+            println!("{call}: {came_to} in {count} calls");
+        }
+    }
+}
+
+/// The lines of a case, such that bytes that do not print can be read.
+fn lines_of(case: &Case) -> String {
+    let lines = case.text.split_inclusive(|byte| *byte == b'\n');
+    lines.map(|line| format!("\n    {}", line.escape_ascii())).collect()
+}

@@ -1,0 +1,130 @@
+//! Scripts of calls, as docs/CALLS.md defines them, written together with the lines that
+//! carrying them out must print.
+//!
+//! A generator says what a call is to be lent (`Lent`) and makes the call. The script finds out
+//! which lines bring the bench there from what stands on it, has the plain program work the
+//! call, and notes the line that must come of it.
+
+mod bench;
+mod call;
+mod content;
+mod lent;
+mod lines;
+
+pub use call::Call;
+pub use lent::{Lent, Slice};
+
+use crate::agree::{filters_agree, first_rosters_agree};
+use crate::sheet;
+use bench::Bench;
+
+/// "A script has at most 2,097,152 bytes."
+pub const MOST_BYTES: usize = 2_097_152;
+
+/// A line that must be printed.
+#[derive(Clone, Debug, PartialEq, Eq)]
+pub struct Printed {
+    pub line: String,
+    /// The call and what it came to, for the tally; none for a line that no call printed.
+    pub call: Option<(&'static str, String)>,
+}
+
+/// A part of a script under one name, and the lines that it must print.
+#[derive(Clone, Debug, Default, PartialEq, Eq)]
+pub struct Case {
+    pub name: String,
+    pub text: Vec<u8>,
+    pub printed: Vec<Printed>,
+}
+
+/// A script while it is written: its cases, and what stands on the bench after them.
+#[derive(Default)]
+pub struct Script {
+    cases: Vec<Case>,
+    bench: Bench,
+}
+
+impl Script {
+    pub fn cases(&self) -> &[Case] {
+        &self.cases
+    }
+
+    /// The whole script.
+    pub fn text(&self) -> Vec<u8> {
+        self.cases.iter().flat_map(|case| case.text.iter().copied()).collect()
+    }
+
+    pub fn bytes(&self) -> usize {
+        self.cases.iter().map(|case| case.text.len()).sum()
+    }
+
+    /// All that must be printed.
+    pub fn printed(&self) -> impl Iterator<Item = &Printed> {
+        self.cases.iter().flat_map(|case| &case.printed)
+    }
+
+    pub fn calls(&self) -> usize {
+        self.printed().filter(|printed| printed.call.is_some()).count()
+    }
+
+    /// Begins a case, which a line that does nothing names.
+    pub fn begin(&mut self, name: &str) {
+        let text = format!("#\t{name}\n").into_bytes();
+        self.cases.push(Case { name: name.to_owned(), text, printed: Vec::new() });
+    }
+
+    /// Makes a call, lent just this; what it leaves stands in `lent` afterwards.
+    pub fn call(&mut self, lent: &mut Lent, call: Call) {
+        self.call_as(&call.line(), lent, call);
+    }
+
+    /// The same by another line that means the call, such as one with wider numbers.
+    pub fn call_as(&mut self, line: &str, lent: &mut Lent, call: Call) {
+        lent.cut_to_room();
+        let mut text = self.bench.bring(lent, call);
+        text.extend_from_slice(line.as_bytes());
+        text.push(b'\n');
+        assert!(ways_agree(lent, call), "the plain program's own ways differ: {call:?}, {lent:?}");
+        let (came_to, line) = call.carry_out(lent);
+        self.bench.take_over(lent, call);
+        self.add(text, Printed { line, call: Some((call.name(), came_to)) });
+    }
+
+    /// Shows a part of a slice as it was lent last.
+    pub fn show(&mut self, slice: Slice, place: usize, count: usize) {
+        let entries = self.bench.lent(slice).iter().skip(place).take(count);
+        let fields = entries.map(|entry| format!("\t{entry}")).collect::<String>();
+        let text = format!("show\t{}\t{place}\t{count}\n", slice.name());
+        self.add(text.into_bytes(), Printed { line: format!("show{fields}"), call: None });
+    }
+
+    /// A line that is none of the format's.
+    pub fn unknown(&mut self, line: &str) {
+        let printed = Printed { line: "unknown".to_owned(), call: None };
+        self.add(format!("{line}\n").into_bytes(), printed);
+    }
+
+    fn add(&mut self, text: Vec<u8>, printed: Printed) {
+        let case = self.cases.last_mut().expect("a case was begun");
+        case.text.extend(text);
+        case.printed.push(printed);
+    }
+}
+
+/// Whether the plain program's several ways agree on a call that they have something to say
+/// about: brute force, tables and pairs on a filter, the reader on what the writer writes.
+fn ways_agree(lent: &Lent, call: Call) -> bool {
+    let case = lent.case();
+    match call {
+        Call::Filter | Call::Open => !lent.is_right() || filters_agree(&case),
+        Call::First { place, value } => {
+            let meant = place < lent.places && usize::from(value) < lent.rules.values;
+            !(lent.is_right() && meant) || first_rosters_agree(&case, place, value)
+        }
+        Call::Write => !lent.rules.is_right() || sheet::reads_back(&lent.rules),
+        Call::Report | Call::Read | Call::Ask(_) | Call::Job => true,
+    }
+}
+
+#[cfg(test)]
+mod tests;

@@ -1,0 +1,142 @@
+//! The calls of a script: their lines, what they use, and what they come to.
+
+use super::content::{checksum, content};
+use super::lent::{Lent, Slice};
+use crate::answer::Answer;
+use crate::session::Request;
+use crate::{calls, job, report, session, sheet};
+
+/// A call with its own numbers. All else that it is handed stands on the bench.
+#[derive(Clone, Copy, Debug, PartialEq, Eq)]
+pub enum Call {
+    Filter,
+    First { place: usize, value: u8 },
+    Report,
+    Read,
+    Write,
+    Open,
+    Ask(Request),
+    Job,
+}
+
+impl Call {
+    pub fn name(self) -> &'static str {
+        match self {
+            Call::Filter => "filter",
+            Call::First { .. } => "first",
+            Call::Report => "report",
+            Call::Read => "read",
+            Call::Write => "write",
+            Call::Open => "open",
+            Call::Ask(Request::Keep { .. }) => "keep",
+            Call::Ask(Request::Limit { .. }) => "limit",
+            Call::Ask(Request::Mark) => "mark",
+            Call::Ask(Request::Back) => "back",
+            Call::Job => "job",
+        }
+    }
+
+    /// The line that makes the call, without its line feed.
+    pub fn line(self) -> String {
+        let name = self.name();
+        match self {
+            Call::First { place, value } => format!("{name}\t{place}\t{value}"),
+            Call::Ask(Request::Keep { place, mask }) => format!("{name}\t{place}\t{mask}"),
+            Call::Ask(Request::Limit { place, limit }) => format!("{name}\t{place}\t{limit}"),
+            _ => name.to_owned(),
+        }
+    }
+
+    /// The slices that the call is lent, in the order in which they are printed.
+    pub fn uses(self) -> &'static [Slice] {
+        use Slice::*;
+        match self {
+            Call::Filter => &[Targets, Costs, Masks, Limits, Kept, Work],
+            Call::First { .. } => &[Targets, Costs, Masks, Limits, Roster, Work],
+            Call::Report => &[Targets, Costs, Roster],
+            Call::Read => &[Targets, Costs, Input],
+            Call::Write => &[Targets, Costs, Output],
+            Call::Open => &[Targets, Costs, Masks, Limits, Work, Session],
+            Call::Ask(_) => &[Targets, Costs, Work, Session],
+            Call::Job => &[Input, Output],
+        }
+    }
+
+    /// Whether the call is handed the five numbers.
+    pub fn uses_sizes(self) -> bool {
+        !matches!(self, Call::Read | Call::Job)
+    }
+
+    /// Makes the call: what it came to, and the line that it prints. "Whether a slice is
+    /// unchanged is told by the checksums before and after the call."
+    pub fn carry_out(self, lent: &mut Lent) -> (String, String) {
+        let before = self.sums(lent);
+        let (came_to, numbers) = self.work(lent);
+        let after = self.sums(lent);
+        let mut line = self.name().to_owned();
+        line.extend(numbers.iter().map(|number| format!("\t{number}")));
+        for (index, slice) in self.uses().iter().enumerate() {
+            if before[index] != after[index] {
+                line += &format!("\t{}{}", slice.name(), content(&lent.entries(*slice)));
+            }
+        }
+        (came_to, line)
+    }
+
+    fn sums(self, lent: &Lent) -> Vec<u64> {
+        self.uses().iter().map(|slice| checksum(&lent.entries(*slice))).collect()
+    }
+
+    /// What the call came to, and the numbers that it prints.
+    fn work(self, lent: &mut Lent) -> (String, Vec<u64>) {
+        if self == Call::Job {
+            return do_job(&lent.input, &mut lent.output);
+        }
+        let (answer, carried) = self.ask_plain_program(lent);
+        let answer = answer.number();
+        (answer.to_string(), [&[u64::from(answer)], carried.as_slice()].concat())
+    }
+
+    /// The answer and the numbers that it carries.
+    fn ask_plain_program(self, lent: &mut Lent) -> (Answer, Vec<u64>) {
+        let Lent { places, rules, masks, limits, kept, roster, work, session, input, output } =
+            lent;
+        let places = *places;
+        match self {
+            Call::Filter => {
+                let (answer, least) = calls::filter(places, rules, masks, limits, kept, work);
+                (answer, vec![u64::from(least)])
+            }
+            Call::First { place, value } => {
+                let ask = calls::first_roster;
+                (ask(places, rules, masks, limits, place, value, roster, work), vec![])
+            }
+            Call::Report => {
+                let (answer, report) = report::prefix_report(places, rules, roster);
+                (answer, vec![report as u64])
+            }
+            Call::Read => {
+                let (targets, costs) = (&mut rules.targets, &mut rules.costs);
+                let (answer, carried) = sheet::read_sheet(input, targets, costs);
+                (answer, carried.numbers().to_vec())
+            }
+            Call::Write => {
+                let (answer, length) = sheet::write_sheet(rules, output);
+                (answer, vec![length as u64])
+            }
+            Call::Open => (session::open(places, rules, masks, limits, session, work), vec![]),
+            Call::Ask(request) => (session::ask(places, rules, session, work, request), vec![]),
+            Call::Job => unreachable!("a job has no answer number"),
+        }
+    }
+}
+
+/// A job comes to the first word that it prints. "What finds no room is dropped, and the length
+/// is given all the same."
+fn do_job(input: &[u8], output: &mut [u8]) -> (String, Vec<u64>) {
+    let text = job::run(input);
+    let room = text.len().min(output.len());
+    output[..room].copy_from_slice(&text[..room]);
+    let word = text.iter().take_while(|byte| byte.is_ascii_lowercase());
+    (word.map(|byte| char::from(*byte)).collect(), vec![text.len() as u64])
+}

@@ -1,0 +1,162 @@
+//! What the calls of a script can be lent.
+
+use crate::cases::Problem;
+use crate::rules::{work_length, Case, Rules};
+use crate::session::memory_length;
+
+/// The ten slices of a script, in the order in which they are printed.
+#[derive(Clone, Copy, Debug, PartialEq, Eq)]
+pub enum Slice {
+    Targets,
+    Costs,
+    Masks,
+    Limits,
+    Kept,
+    Roster,
+    Work,
+    Session,
+    Input,
+    Output,
+}
+
+impl Slice {
+    /// The name in a script, and how many entries there is room for.
+    fn name_and_room(self) -> (&'static str, usize) {
+        match self {
+            Slice::Targets => ("targets", 1_100),
+            Slice::Costs => ("costs", 1_100),
+            Slice::Masks => ("masks", 400),
+            Slice::Limits => ("limits", 400),
+            Slice::Kept => ("kept", 400),
+            Slice::Roster => ("roster", 400),
+            Slice::Work => ("work", 24_000),
+            Slice::Session => ("session", 3_000),
+            Slice::Input => ("input", 33_000),
+            Slice::Output => ("output", 20_000),
+        }
+    }
+
+    pub fn name(self) -> &'static str {
+        self.name_and_room().0
+    }
+
+    pub fn room(self) -> usize {
+        self.name_and_room().1
+    }
+
+    pub const ALL: [Slice; 10] = [
+        Slice::Targets,
+        Slice::Costs,
+        Slice::Masks,
+        Slice::Limits,
+        Slice::Kept,
+        Slice::Roster,
+        Slice::Work,
+        Slice::Session,
+        Slice::Input,
+        Slice::Output,
+    ];
+}
+
+/// All that a call can be lent or handed besides its own numbers, right or wrong. A call that
+/// has no use for a part of it does not see that part.
+#[derive(Clone, Debug, PartialEq, Eq)]
+pub struct Lent {
+    pub places: usize,
+    pub rules: Rules,
+    pub masks: Vec<u16>,
+    pub limits: Vec<u32>,
+    pub kept: Vec<u16>,
+    pub roster: Vec<u8>,
+    pub work: Vec<u32>,
+    pub session: Vec<u32>,
+    pub input: Vec<u8>,
+    pub output: Vec<u8>,
+}
+
+impl Lent {
+    /// Slices of the right lengths for a problem. The outputs hold what no call would leave.
+    pub fn of(problem: Problem) -> Lent {
+        let Problem { places, rules, masks, limits } = problem;
+        Lent {
+            places,
+            rules,
+            masks,
+            limits,
+            kept: vec![9; places],
+            roster: vec![9; places],
+            work: vec![0; work_length(places)],
+            session: vec![9; memory_length(places)],
+            input: Vec::new(),
+            output: Vec::new(),
+        }
+    }
+
+    pub fn case(&self) -> Case<'_> {
+        Case { rules: &self.rules, masks: &self.masks, limits: &self.limits }
+    }
+
+    /// Whether answers 1 to 4 do not concern the rules, masks and limits.
+    pub fn is_right(&self) -> bool {
+        self.case().is_right(self.places)
+    }
+
+    /// The entries of a slice as numbers.
+    pub fn entries(&self, slice: Slice) -> Vec<u32> {
+        match slice {
+            Slice::Targets => widened(&self.rules.targets),
+            Slice::Costs => widened(&self.rules.costs),
+            Slice::Masks => widened(&self.masks),
+            Slice::Limits => self.limits.clone(),
+            Slice::Kept => widened(&self.kept),
+            Slice::Roster => widened(&self.roster),
+            Slice::Work => self.work.clone(),
+            Slice::Session => self.session.clone(),
+            Slice::Input => widened(&self.input),
+            Slice::Output => widened(&self.output),
+        }
+    }
+
+    /// Another length for a slice, at most its room. What is added is zeros.
+    pub fn resize(&mut self, slice: Slice, length: usize) {
+        let length = length.min(slice.room());
+        match slice {
+            Slice::Targets => self.rules.targets.resize(length, 0),
+            Slice::Costs => self.rules.costs.resize(length, 0),
+            Slice::Masks => self.masks.resize(length, 0),
+            Slice::Limits => self.limits.resize(length, 0),
+            Slice::Kept => self.kept.resize(length, 0),
+            Slice::Roster => self.roster.resize(length, 0),
+            Slice::Work => self.work.resize(length, 0),
+            Slice::Session => self.session.resize(length, 0),
+            Slice::Input => self.input.resize(length, 0),
+            Slice::Output => self.output.resize(length, 0),
+        }
+    }
+
+    pub fn length(&self, slice: Slice) -> usize {
+        match slice {
+            Slice::Targets => self.rules.targets.len(),
+            Slice::Costs => self.rules.costs.len(),
+            Slice::Masks => self.masks.len(),
+            Slice::Limits => self.limits.len(),
+            Slice::Kept => self.kept.len(),
+            Slice::Roster => self.roster.len(),
+            Slice::Work => self.work.len(),
+            Slice::Session => self.session.len(),
+            Slice::Input => self.input.len(),
+            Slice::Output => self.output.len(),
+        }
+    }
+
+    /// No slice can be lent with more entries than there is room for.
+    pub fn cut_to_room(&mut self) {
+        for slice in Slice::ALL {
+            self.resize(slice, self.length(slice));
+        }
+    }
+}
+
+fn widened<T: Copy + Into<u32>>(entries: &[T]) -> Vec<u32> {
+    entries.iter().map(|entry| (*entry).into()).collect()
+}

@@ -1,0 +1,100 @@
+use super::edges::CALLS;
+use super::order::refusals;
+use super::*;
+use crate::script::Call;
+use crate::worked::{FIRST_CASES, KEPT_CASES};
+use std::collections::BTreeSet;
+
+/// "Checks run in the order 1, 2, 3, 4, 5, 12, 7, 8, 9, 10, 6, 11."
+const ORDER: [u32; 12] = [1, 2, 3, 4, 5, 12, 7, 8, 9, 10, 6, 11];
+
+fn fixed() -> Script {
+    written(1, 0)
+}
+
+fn written(seed: u64, wanted: usize) -> Script {
+    let (mut script, mut cases) = (Script::default(), Cases::new(seed, wanted));
+    while cases.add_next(&mut script) {}
+    script
+}
+
+/// The lines that the cases of this name print.
+fn printed_by(script: &Script, name: &str) -> Vec<String> {
+    let cases = script.cases().iter().filter(|case| case.name == name);
+    cases.flat_map(|case| &case.printed).map(|printed| printed.line.clone()).collect()
+}
+
+fn fields<T: ToString>(numbers: &[T]) -> String {
+    numbers.iter().map(|number| format!("\t{}", number.to_string())).collect()
+}
+
+#[test]
+fn every_call_meets_every_answer_that_it_can_give_and_no_other() {
+    let script = fixed();
+    let calls = script.printed().filter_map(|printed| printed.call.clone());
+    let met: BTreeSet<(&str, String)> = calls.collect();
+    let mut expected: BTreeSet<(&str, String)> =
+        ["kept", "none", "long", "sheet", "job"].map(|word| ("job", word.to_owned())).into();
+    for call in CALLS.into_iter().filter(|call| *call != Call::Job) {
+        let answers = refusals(call).iter().chain(&[0]);
+        expected.extend(answers.map(|answer| (call.name(), answer.to_string())));
+    }
+    assert_eq!(met, expected);
+}
+
+#[test]
+fn of_two_faults_the_one_that_is_checked_first_is_answered() {
+    let script = fixed();
+    for call in CALLS {
+        let refusals = refusals(call);
+        let in_order = ORDER.iter().filter(|answer| refusals.contains(answer));
+        assert!(in_order.eq(refusals), "{call:?}");
+        let earlier = (0..refusals.len()).flat_map(|later| &refusals[..=later]);
+        let expected: Vec<String> = earlier.map(|answer| answer.to_string()).collect();
+        let name = format!("two faults in {}", call.name());
+        let lines = printed_by(&script, &name);
+        let answers: Vec<&str> = lines.iter().filter_map(|line| line.split('\t').nth(1)).collect();
+        assert_eq!(answers, expected, "{call:?}");
+    }
+}
+
+#[test]
+fn k1_to_k12_print_what_the_paper_says() {
+    let script = fixed();
+    for worked in KEPT_CASES {
+        let numbers = [worked.answer, worked.least];
+        let line = format!("filter{}\tkept{}", fields(&numbers), fields(worked.kept));
+        assert_eq!(printed_by(&script, worked.name), [line]);
+    }
+    for worked in FIRST_CASES {
+        let line = format!("first\t0\troster{}", fields(worked.roster));
+        assert_eq!(printed_by(&script, worked.name), [line]);
+    }
+}
+
+#[test]
+fn the_session_walk_shows_what_the_paper_says() {
+    let lines = printed_by(&fixed(), "the session walk on W");
+    let shown: Vec<&str> = lines.iter().filter_map(|line| line.strip_prefix("show\t")).collect();
+    let (opened, limited) = ("0\t2\t7\t7\t7", "0\t2\t4\t1\t1");
+    let kept = "0\t2\t5\t1\t5";
+    let none = "11\t0\t0\t0\t0";
+    let expected = [opened, opened, kept, limited, limited, none, limited, opened, opened];
+    assert_eq!(shown, expected);
+    assert_eq!(lines[lines.len() - 2], "back\t10");
+}
+
+#[test]
+fn the_same_seed_gives_the_same_script_and_another_seed_another() {
+    let wanted = fixed().calls() + 200;
+    let script = written(7, wanted);
+    assert_eq!(script.cases(), written(7, wanted).cases());
+    assert_ne!(script.cases(), written(8, wanted).cases());
+    assert!(script.calls() >= wanted);
+}
+
+#[test]
+fn scripts_begin_with_the_same_cases_however_long_they_are() {
+    let (short, long) = (written(3, fixed().calls() + 50), written(3, fixed().calls() + 300));
+    assert_eq!(short.cases(), &long.cases()[..short.cases().len()]);
+}
