@@ -40,28 +40,14 @@ impl<'a> Pairs<'a> {
     }
 
     fn kept_at(&self, place: usize) -> u16 {
-        let mut mask = 0;
-        for pair in &self.layers[place] {
-            for value in 0..self.case.rules.values {
-                if self.live_step(place, *pair, value).is_some() {
-                    mask |= 1 << value;
-                }
-            }
-        }
-        mask
+        let pairs = &self.layers[place];
+        let lives = |value, pair: &Pair| self.live_step(place, *pair, value).is_some();
+        self.case.rules.mask_of(|value| pairs.iter().any(|pair| lives(value, pair)))
     }
 
     /// The first of all allowed rosters.
     pub fn first(&self) -> Option<Vec<u8>> {
-        let mut pair = (usize::from(self.case.rules.start), 0);
-        let mut roster = Vec::new();
-        for place in 0..self.case.places() {
-            let step = |value| Some((value, self.live_step(place, pair, value)?));
-            let (value, next) = (0..self.case.rules.values).find_map(step)?;
-            roster.push(value as u8);
-            pair = next;
-        }
-        Some(roster)
+        self.case.smallest_roster(|place, pair, value| self.live_step(place, pair, value))
     }
 
     fn live_step(&self, place: usize, (state, spent): Pair, value: usize) -> Option<Pair> {
@@ -92,27 +78,15 @@ fn drop_dead_ends(case: &Case, layers: &mut [BTreeSet<Pair>]) {
 mod tests {
     use super::*;
     use crate::rules::narrowed;
-    use crate::worked::{w, FIRST_CASES, KEPT_CASES};
+    use crate::worked::{check_first_cases, check_kept_cases, w};
 
     #[test]
-    fn k1_to_k10() {
-        let rules = w();
-        for worked in KEPT_CASES {
-            let case = Case { rules: &rules, masks: worked.masks, limits: worked.limits };
-            let pairs = Pairs::up_to(case, 1_000).unwrap();
-            assert_eq!(pairs.filter(), worked.found(), "{}", worked.name);
-        }
-    }
-
-    #[test]
-    fn k11_and_k12() {
-        let rules = w();
-        for worked in FIRST_CASES {
-            let masks = narrowed(worked.masks, worked.place, worked.value);
-            let case = Case { rules: &rules, masks: &masks, limits: worked.limits };
-            let first = Pairs::up_to(case, 1_000).unwrap().first();
-            assert_eq!(first.as_deref(), Some(worked.roster), "{}", worked.name);
-        }
+    fn k1_to_k12() {
+        check_kept_cases(|case| Pairs::up_to(*case, 1_000).unwrap().filter());
+        check_first_cases(|case, place, value| {
+            let masks = narrowed(case.masks, place, value);
+            Pairs::up_to(Case { masks: &masks, ..*case }, 1_000).unwrap().first()
+        });
     }
 
     #[test]

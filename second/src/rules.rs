@@ -72,7 +72,12 @@ impl Rules {
 
     /// A choice of everything.
     pub fn full_mask(&self) -> u16 {
-        (0..self.values).fold(0, |mask, value| mask | 1 << value)
+        self.mask_of(|_| true)
+    }
+
+    /// The mask of the values that something is true of.
+    pub fn mask_of(&self, is_in: impl Fn(usize) -> bool) -> u16 {
+        (0..self.values).filter(|value| is_in(*value)).fold(0, |mask, value| mask | 1 << value)
     }
 
     /// "The arc of state q on value v is at q × V + v": its target and cost, if there is one.
@@ -143,6 +148,23 @@ impl Case<'_> {
         }
         let (target, cost) = self.rules.arc(state, value)?;
         (spent + cost <= self.limit(place)).then_some((target, spent + cost))
+    }
+
+    /// "each place takes the smallest value that still leaves a way to the end": `good_step` is
+    /// the step at a place, from a state with some cost spent, on a value that does.
+    pub fn smallest_roster(
+        &self,
+        good_step: impl Fn(usize, (usize, u32), usize) -> Option<(usize, u32)>,
+    ) -> Option<Vec<u8>> {
+        let mut at = (usize::from(self.rules.start), 0);
+        let mut roster = Vec::new();
+        for place in 0..self.places() {
+            let step = |value| Some((value, good_step(place, at, value)?));
+            let (value, next) = (0..self.rules.values).find_map(step)?;
+            roster.push(value as u8);
+            at = next;
+        }
+        Some(roster)
     }
 }
 

@@ -71,8 +71,7 @@ fn good_step(
     case: &Case,
     most: &Layers,
     place: usize,
-    state: usize,
-    spent: u32,
+    (state, spent): (usize, u32),
     value: usize,
 ) -> Option<(usize, u32)> {
     let (target, cost) = case.step(place, state, spent, value)?;
@@ -88,56 +87,27 @@ pub fn filter(case: &Case) -> Option<Found> {
 }
 
 fn kept_at(case: &Case, least: &Layers, most: &Layers, place: usize) -> u16 {
-    let mut mask = 0;
-    for (state, spent) in present(&least[place]) {
-        for value in 0..case.rules.values {
-            if good_step(case, most, place, state, spent, value).is_some() {
-                mask |= 1 << value;
-            }
-        }
-    }
-    mask
+    let is_good = |value, at| good_step(case, most, place, at, value).is_some();
+    case.rules.mask_of(|value| present(&least[place]).any(|at| is_good(value, at)))
 }
 
-/// "each place takes the smallest value that still leaves a way to the end".
 pub fn first_roster(case: &Case, place: usize, value: u8) -> Option<Vec<u8>> {
     let masks = narrowed(case.masks, place, value);
     let case = Case { masks: &masks, ..*case };
     let most = most_spent(&case);
-    let (mut state, mut spent) = (usize::from(case.rules.start), 0);
-    let mut roster = Vec::new();
-    for place in 0..case.places() {
-        let step = |value| Some((value, good_step(&case, &most, place, state, spent, value)?));
-        let (value, next) = (0..case.rules.values).find_map(step)?;
-        roster.push(value as u8);
-        (state, spent) = next;
-    }
-    Some(roster)
+    case.smallest_roster(|place, at, value| good_step(&case, &most, place, at, value))
 }
 
 #[cfg(test)]
 mod tests {
     use super::*;
     use crate::rules::{Rules, TABLE};
-    use crate::worked::{w, FIRST_CASES, KEPT_CASES};
+    use crate::worked::{check_first_cases, check_kept_cases, w};
 
     #[test]
-    fn k1_to_k10() {
-        let rules = w();
-        for worked in KEPT_CASES {
-            let case = Case { rules: &rules, masks: worked.masks, limits: worked.limits };
-            assert_eq!(filter(&case), worked.found(), "{}", worked.name);
-        }
-    }
-
-    #[test]
-    fn k11_and_k12() {
-        let rules = w();
-        for worked in FIRST_CASES {
-            let case = Case { rules: &rules, masks: worked.masks, limits: worked.limits };
-            let first = first_roster(&case, worked.place, worked.value);
-            assert_eq!(first.as_deref(), Some(worked.roster), "{}", worked.name);
-        }
+    fn k1_to_k12() {
+        check_kept_cases(filter);
+        check_first_cases(first_roster);
     }
 
     #[test]

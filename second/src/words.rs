@@ -80,7 +80,7 @@ pub fn first_roster(case: &Case, place: usize, value: u8) -> Option<Vec<u8>> {
 mod tests {
     use super::*;
     use crate::rules::MOST_LIMIT;
-    use crate::worked::{w, FIRST_CASES, KEPT_CASES};
+    use crate::worked::{check_first_cases, check_kept_cases, w};
 
     #[test]
     fn words_come_in_the_papers_order() {
@@ -98,22 +98,9 @@ mod tests {
     }
 
     #[test]
-    fn k1_to_k10() {
-        let rules = w();
-        for worked in KEPT_CASES {
-            let case = Case { rules: &rules, masks: worked.masks, limits: worked.limits };
-            assert_eq!(filter(&case), worked.found(), "{}", worked.name);
-        }
-    }
-
-    #[test]
-    fn k11_and_k12() {
-        let rules = w();
-        for worked in FIRST_CASES {
-            let case = Case { rules: &rules, masks: worked.masks, limits: worked.limits };
-            let first = first_roster(&case, worked.place, worked.value);
-            assert_eq!(first.as_deref(), Some(worked.roster), "{}", worked.name);
-        }
+    fn k1_to_k12() {
+        check_kept_cases(filter);
+        check_first_cases(first_roster);
     }
 
     #[test]

@@ -1,5 +1,7 @@
 //! The sheet W and the rosters worked on it, as the paper prints them.
 
+#[cfg(test)]
+use crate::rules::Case;
 use crate::rules::{Found, Rules, MOST_LIMIT, NO_ARC, TABLE};
 
 /// The sheet W, whole.
@@ -107,3 +109,24 @@ const fn first(name: &'static str, limits: &'static [u32], roster: &'static [u8]
 /// "first roster with e at place 1 is eex", "the same with K5's limits is xee".
 pub const FIRST_CASES: &[FirstCase] =
     &[first("K11", &[N, N, N], &[1, 1, 2]), first("K12", &[0, N, N], &[2, 1, 1])];
+
+/// Holds a filter against K1 to K10.
+#[cfg(test)]
+pub fn check_kept_cases(filter: impl Fn(&Case) -> Option<Found>) {
+    let rules = w();
+    for worked in KEPT_CASES {
+        let case = Case { rules: &rules, masks: worked.masks, limits: worked.limits };
+        assert_eq!(filter(&case), worked.found(), "{}", worked.name);
+    }
+}
+
+/// Holds a first roster, by place and value, against K11 and K12.
+#[cfg(test)]
+pub fn check_first_cases(first: impl Fn(&Case, usize, u8) -> Option<Vec<u8>>) {
+    let rules = w();
+    for worked in FIRST_CASES {
+        let case = Case { rules: &rules, masks: worked.masks, limits: worked.limits };
+        let first = first(&case, worked.place, worked.value);
+        assert_eq!(first.as_deref(), Some(worked.roster), "{}", worked.name);
+    }
+}

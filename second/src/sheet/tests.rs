@@ -1,0 +1,121 @@
+use super::*;
+use crate::samples::{OUT_OF_ORDER, RIGHT_SHEETS, WRONG_LATER_LINES, WRONG_SIZE_LINES};
+use crate::worked::{w, W};
+
+fn wrong_line(text: &str) -> usize {
+    parse(text.as_bytes()).expect_err(text)
+}
+
+fn is_right(text: &str) -> bool {
+    parse(text.as_bytes()).is_ok()
+}
+
+#[test]
+fn w_is_read_into_the_first_places_only() {
+    let (mut targets, mut costs) = ([77; TABLE], [7_777; TABLE]);
+    let (answer, carried) = read_sheet(W.as_bytes(), &mut targets, &mut costs);
+    assert_eq!(answer, Answer::Done);
+    let expected = Carried { line: 0, states: 6, values: 3, start: 0, accepting: 0b11_1101 };
+    assert_eq!(carried, expected);
+    assert_eq!(targets[..18], w().targets[..18]);
+    assert_eq!(costs[..18], w().costs[..18]);
+    assert!(targets[18..].iter().all(|target| *target == 77));
+    assert!(costs[18..].iter().all(|cost| *cost == 7_777));
+}
+
+#[test]
+fn w_is_written_byte_for_byte() {
+    let mut buffer = [b'?'; 400];
+    assert_eq!(write_sheet(&w(), &mut buffer), (Answer::Done, W.len()));
+    assert_eq!(&buffer[..W.len()], W.as_bytes());
+    assert!(buffer[W.len()..].iter().all(|byte| *byte == b'?'));
+}
+
+#[test]
+fn a_buffer_of_the_exact_length_is_enough_and_one_less_gets_6() {
+    let mut exact = vec![0; W.len()];
+    assert_eq!(write_sheet(&w(), &mut exact), (Answer::Done, W.len()));
+    let mut short = vec![b'?'; W.len() - 1];
+    assert_eq!(write_sheet(&w(), &mut short), (Answer::Room, 0));
+    assert!(short.iter().all(|byte| *byte == b'?'));
+}
+
+#[test]
+fn the_writer_refuses_by_1_2_3_before_6() {
+    let answer = |rules: &Rules| write_sheet(rules, &mut []);
+    assert_eq!(answer(&Rules { values: 17, ..w() }), (Answer::Sizes, 0));
+    assert_eq!(answer(&Rules { costs: vec![0; 1_025], ..w() }), (Answer::Lengths, 0));
+    assert_eq!(answer(&Rules { accepting: 64, ..w() }), (Answer::Tables, 0));
+    assert_eq!(answer(&w()), (Answer::Room, 0));
+}
+
+#[test]
+fn the_reader_refuses_wrong_tables_with_0_for_its_line() {
+    let (mut targets, mut costs) = ([7; TABLE], [7; TABLE - 1]);
+    let refused = read_sheet(b"wrong", &mut targets, &mut costs);
+    assert_eq!(refused, (Answer::Lengths, Carried::default()));
+    assert_eq!((targets, costs), ([7; TABLE], [7; TABLE - 1]));
+}
+
+#[test]
+fn a_wrong_sheet_leaves_the_tables() {
+    let (mut targets, mut costs) = ([7; TABLE], [7; TABLE]);
+    let text = W.to_owned() + "arc\t5\t2\t6\t0\n";
+    let refused = read_sheet(text.as_bytes(), &mut targets, &mut costs);
+    assert_eq!(refused, (Answer::Sheet, Carried { line: 19, ..Carried::default() }));
+    assert_eq!((targets, costs), ([7; TABLE], [7; TABLE]));
+}
+
+#[test]
+fn no_final_line_and_no_arc_line_is_lawful() {
+    for text in RIGHT_SHEETS {
+        assert!(is_right(text), "{text:?}");
+    }
+}
+
+#[test]
+fn wrong_size_lines() {
+    for text in WRONG_SIZE_LINES {
+        assert_eq!(wrong_line(text), 1);
+    }
+}
+
+#[test]
+fn wrong_later_lines_by_form_range_order_and_line_feed() {
+    for line in WRONG_LATER_LINES {
+        assert_eq!(wrong_line(&format!("size\t6\t3\t0\n{line}")), 2, "{line:?}");
+    }
+}
+
+#[test]
+fn order_is_rising_without_repetition() {
+    for (text, line) in OUT_OF_ORDER {
+        assert_eq!(wrong_line(text), *line, "{text:?}");
+    }
+}
+
+#[test]
+fn every_beginning_of_w_is_wrong_where_it_breaks_off() {
+    for length in 0..W.len() {
+        let text = &W[..length];
+        match text.strip_suffix('\n') {
+            Some(_) => assert!(is_right(text)),
+            None => assert_eq!(wrong_line(text), text.matches('\n').count() + 1),
+        }
+    }
+}
+
+#[test]
+fn the_longest_right_sheet_has_18212_bytes() {
+    let rules = Rules {
+        states: 64,
+        values: 16,
+        start: 63,
+        targets: vec![63; TABLE],
+        costs: vec![1_000; TABLE],
+        accepting: u64::MAX,
+    };
+    let text = sheet_of(&rules);
+    assert_eq!(text.len(), 18_212);
+    assert_eq!(parse(text.as_bytes()), Ok(rules));
+}
