@@ -11,7 +11,7 @@ mod content;
 mod lent;
 mod lines;
 
-pub use call::Call;
+pub use call::{Call, CameTo};
 pub use lent::{Lent, Slice};
 
 use crate::agree::{filters_agree, first_rosters_agree};
@@ -26,7 +26,7 @@ pub const MOST_BYTES: usize = 2_097_152;
 pub struct Printed {
     pub line: String,
     /// The call and what it came to, for the tally; none for a line that no call printed.
-    pub call: Option<(&'static str, String)>,
+    pub call: Option<(&'static str, CameTo)>,
 }
 
 /// A part of a script under one name, and the lines that it must print.

@@ -25,7 +25,8 @@ const FIXED: &[fn(&mut Script)] = &[
     walks::sheet,
     walks::lines,
     edges::faults,
-    edges::largest,
+    edges::sizes,
+    edges::limits,
     order::pairs,
     memory::faults,
     memory::number_by_number,
@@ -38,10 +39,13 @@ const FIXED: &[fn(&mut Script)] = &[
     jobs::long,
 ];
 
-/// A random case in a hundred of each kind. One of a problem or text makes some calls, a
-/// session's history up to some two hundred.
-const RANDOM: &[(usize, fn(&mut Random, &mut Script))] =
-    &[(45, problems::case), (25, sheets::case), (20, jobs::case), (10, histories::case)];
+/// What makes the calls of a random case.
+type RandomCase = fn(&mut Random, &mut Script);
+
+/// How many of a hundred random cases are of each kind. One of a problem or text makes some
+/// calls, a session's history up to some two hundred.
+const RANDOM: &[(usize, RandomCase)] =
+    &[(60, problems::case), (18, sheets::case), (15, jobs::case), (7, histories::case)];
 
 /// The cases one after the other: the fixed ones, then random ones until enough calls are made.
 pub struct Cases {

@@ -5,6 +5,7 @@ use super::lent::{Lent, Slice};
 use crate::answer::Answer;
 use crate::session::Request;
 use crate::{calls, job, report, session, sheet};
+use std::fmt;
 
 /// A call with its own numbers. All else that it is handed stands on the bench.
 #[derive(Clone, Copy, Debug, PartialEq, Eq)]
@@ -17,6 +18,22 @@ pub enum Call {
     Open,
     Ask(Request),
     Job,
+}
+
+/// What a call came to: its answer number, or the word that a job prints first.
+#[derive(Clone, Debug, PartialEq, Eq, PartialOrd, Ord)]
+pub enum CameTo {
+    Answer(u32),
+    Word(String),
+}
+
+impl fmt::Display for CameTo {
+    fn fmt(&self, out: &mut fmt::Formatter) -> fmt::Result {
+        match self {
+            CameTo::Answer(number) => write!(out, "answer {number}"),
+            CameTo::Word(word) => write!(out, "{word}"),
+        }
+    }
 }
 
 impl Call {
@@ -69,7 +86,7 @@ impl Call {
 
     /// Makes the call: what it came to, and the line that it prints. "Whether a slice is
     /// unchanged is told by the checksums before and after the call."
-    pub fn carry_out(self, lent: &mut Lent) -> (String, String) {
+    pub fn carry_out(self, lent: &mut Lent) -> (CameTo, String) {
         let before = self.sums(lent);
         let (came_to, numbers) = self.work(lent);
         let after = self.sums(lent);
@@ -88,13 +105,13 @@ impl Call {
     }
 
     /// What the call came to, and the numbers that it prints.
-    fn work(self, lent: &mut Lent) -> (String, Vec<u64>) {
+    fn work(self, lent: &mut Lent) -> (CameTo, Vec<u64>) {
         if self == Call::Job {
             return do_job(&lent.input, &mut lent.output);
         }
         let (answer, carried) = self.ask_plain_program(lent);
         let answer = answer.number();
-        (answer.to_string(), [&[u64::from(answer)], carried.as_slice()].concat())
+        (CameTo::Answer(answer), [&[u64::from(answer)], carried.as_slice()].concat())
     }
 
     /// The answer and the numbers that it carries.
@@ -131,12 +148,12 @@ impl Call {
     }
 }
 
-/// A job comes to the first word that it prints. "What finds no room is dropped, and the length
-/// is given all the same."
-fn do_job(input: &[u8], output: &mut [u8]) -> (String, Vec<u64>) {
+/// "What finds no room is dropped, and the length is given all the same."
+fn do_job(input: &[u8], output: &mut [u8]) -> (CameTo, Vec<u64>) {
     let text = job::run(input);
     let room = text.len().min(output.len());
     output[..room].copy_from_slice(&text[..room]);
     let word = text.iter().take_while(|byte| byte.is_ascii_lowercase());
-    (word.map(|byte| char::from(*byte)).collect(), vec![text.len() as u64])
+    let word = word.map(|byte| char::from(*byte)).collect();
+    (CameTo::Word(word), vec![text.len() as u64])
 }

@@ -117,44 +117,34 @@ impl Lent {
         }
     }
 
-    /// Another length for a slice, at most its room. What is added is zeros.
-    pub fn resize(&mut self, slice: Slice, length: usize) {
-        let length = length.min(slice.room());
+    /// Another length for a slice, given the old one, but at most its room. What is added is
+    /// zeros.
+    pub fn change_length(&mut self, slice: Slice, other: impl FnOnce(usize) -> usize) {
+        let other = |length| other(length).min(slice.room());
         match slice {
-            Slice::Targets => self.rules.targets.resize(length, 0),
-            Slice::Costs => self.rules.costs.resize(length, 0),
-            Slice::Masks => self.masks.resize(length, 0),
-            Slice::Limits => self.limits.resize(length, 0),
-            Slice::Kept => self.kept.resize(length, 0),
-            Slice::Roster => self.roster.resize(length, 0),
-            Slice::Work => self.work.resize(length, 0),
-            Slice::Session => self.session.resize(length, 0),
-            Slice::Input => self.input.resize(length, 0),
-            Slice::Output => self.output.resize(length, 0),
-        }
-    }
-
-    pub fn length(&self, slice: Slice) -> usize {
-        match slice {
-            Slice::Targets => self.rules.targets.len(),
-            Slice::Costs => self.rules.costs.len(),
-            Slice::Masks => self.masks.len(),
-            Slice::Limits => self.limits.len(),
-            Slice::Kept => self.kept.len(),
-            Slice::Roster => self.roster.len(),
-            Slice::Work => self.work.len(),
-            Slice::Session => self.session.len(),
-            Slice::Input => self.input.len(),
-            Slice::Output => self.output.len(),
+            Slice::Targets => resize(&mut self.rules.targets, other),
+            Slice::Costs => resize(&mut self.rules.costs, other),
+            Slice::Masks => resize(&mut self.masks, other),
+            Slice::Limits => resize(&mut self.limits, other),
+            Slice::Kept => resize(&mut self.kept, other),
+            Slice::Roster => resize(&mut self.roster, other),
+            Slice::Work => resize(&mut self.work, other),
+            Slice::Session => resize(&mut self.session, other),
+            Slice::Input => resize(&mut self.input, other),
+            Slice::Output => resize(&mut self.output, other),
         }
     }
 
     /// No slice can be lent with more entries than there is room for.
     pub fn cut_to_room(&mut self) {
         for slice in Slice::ALL {
-            self.resize(slice, self.length(slice));
+            self.change_length(slice, |length| length);
         }
     }
+}
+
+fn resize<T: Clone + Default>(entries: &mut Vec<T>, other: impl FnOnce(usize) -> usize) {
+    entries.resize(other(entries.len()), T::default());
 }
 
 fn widened<T: Copy + Into<u32>>(entries: &[T]) -> Vec<u32> {

@@ -53,8 +53,7 @@ fn with_wrong_numbers(random: &mut Random, lent: &Lent, call: Call) -> Call {
 }
 
 fn damage_length(random: &mut Random, lent: &mut Lent, slice: Slice) {
-    let length = another_length(random, lent.length(slice));
-    lent.resize(slice, length);
+    lent.change_length(slice, |length| another_length(random, length));
 }
 
 fn damage_content(random: &mut Random, lent: &mut Lent, slice: Slice) {

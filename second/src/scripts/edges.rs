@@ -1,11 +1,12 @@
-//! The edges of every size: one fault at a time in all that a call is lent or handed, and the
-//! largest problem there is.
+//! The edges of every size: one change at a time in all that a call is lent or handed, and the
+//! smallest and the largest problems there are.
 
 use super::walks::{keep, limit, open_on_w, BACK, MARK};
 use crate::cases::Problem;
-use crate::rules::{work_length, Rules, MOST_LIMIT, NO_ARC, TABLE};
+use crate::rules::{Rules, MOST_COST, MOST_LIMIT, NO_ARC, TABLE};
 use crate::script::{Call, Lent, Script, Slice};
-use crate::session::{memory_length, Entry, Session};
+use crate::session::{Entry, Request, Session};
+use crate::sheet::sheet_of;
 use crate::worked::W;
 
 /// A right call of each kind upon `all_right`.
@@ -16,8 +17,8 @@ pub const CALLS: [Call; 11] = [
     Call::Read,
     Call::Write,
     Call::Open,
-    Call::Ask(crate::session::Request::Keep { place: 1, mask: 3 }),
-    Call::Ask(crate::session::Request::Limit { place: 1, limit: 3 }),
+    Call::Ask(Request::Keep { place: 1, mask: 3 }),
+    Call::Ask(Request::Limit { place: 1, limit: 3 }),
     MARK,
     BACK,
     Call::Job,
@@ -76,14 +77,9 @@ fn with(right: &Lent, change: impl FnOnce(&mut Lent)) -> Lent {
 
 /// Each slice one entry too short or too long, and empty.
 fn other_lengths(right: &Lent, call: Call) -> Vec<Lent> {
-    let mut changed = Vec::new();
-    for slice in call.uses() {
-        let length = right.length(*slice);
-        for other in [length - 1, length + 1, 0] {
-            changed.push(with(right, |lent| lent.resize(*slice, other)));
-        }
-    }
-    changed
+    let lengths: [fn(usize) -> usize; 3] = [|length| length - 1, |length| length + 1, |_| 0];
+    let pairs = call.uses().iter().flat_map(|slice| lengths.map(|other| (*slice, other)));
+    pairs.map(|(slice, other)| with(right, |lent| lent.change_length(slice, other))).collect()
 }
 
 /// Numbers that equal a right one once they are cut to 8, 16 or 32 bits.
@@ -148,53 +144,74 @@ fn other_rosters(right: &Lent) -> Vec<Lent> {
 fn other_numbers(call: Call) -> Vec<Call> {
     let places = [&[0, 1, 2, 3, 366, usize::MAX][..], &cut_right(1)].concat();
     let places = places.into_iter();
-    match call.name() {
-        "first" => places
-            .map(|place| Call::First { place, value: 1 })
-            .chain([0, 2, 3, 16, 255].map(|value| Call::First { place: 1, value }))
-            .collect(),
-        "keep" => places
-            .map(|place| keep(place, 3))
-            .chain([0, 1, 7, 8, 1 << 15, u16::MAX].map(|mask| keep(1, mask)))
-            .collect(),
-        "limit" => places
-            .map(|place| limit(place, 3))
-            .chain([0, 1, 2, MOST_LIMIT - 1, MOST_LIMIT, u32::MAX].map(|most| limit(1, most)))
-            .collect(),
+    match call {
+        Call::First { value, .. } => {
+            let values = [0, 2, 3, 16, 255].map(|value| Call::First { place: 1, value });
+            places.map(|place| Call::First { place, value }).chain(values).collect()
+        }
+        Call::Ask(Request::Keep { mask, .. }) => {
+            let masks = [0, 1, 7, 8, 1 << 15, u16::MAX].map(|mask| keep(1, mask));
+            places.map(|place| keep(place, mask)).chain(masks).collect()
+        }
+        Call::Ask(Request::Limit { limit: most, .. }) => {
+            let limits = [0, 1, 2, MOST_LIMIT - 1, MOST_LIMIT, MOST_LIMIT + 1, u32::MAX];
+            let limits = limits.map(|most| limit(1, most));
+            places.map(|place| limit(place, most)).chain(limits).collect()
+        }
         _ => Vec::new(),
     }
 }
 
-/// 366 places, 64 states and 16 values, every arc as dear as it may be, so that the last limit
-/// decides; then a place too many, with all lengths right for it.
-pub fn largest(script: &mut Script) {
-    let (targets, costs) = (vec![63; TABLE], vec![1_000; TABLE]);
-    let rules = Rules { states: 64, values: 16, start: 63, targets, costs, accepting: u64::MAX };
-    let (masks, limits) = (vec![u16::MAX; 366], vec![u32::MAX; 366]);
-    let mut lent = Lent::of(Problem { places: 366, rules, masks, limits });
-    lent.output = vec![b'?'; 18_212];
-    for last in [MOST_LIMIT - 1, MOST_LIMIT, MOST_LIMIT + 1, u32::MAX] {
-        script.begin(&format!("the largest problem, the last limit {last}"));
-        lent.limits[365] = last;
-        for call in [Call::Filter, Call::First { place: 365, value: 15 }, Call::Open, MARK, BACK] {
+/// Every arc leads to the last state, where all begins, and is as dear as it may be.
+fn dearest(places: usize, states: usize, values: usize) -> Lent {
+    let rules = Rules {
+        states,
+        values,
+        start: states as u8 - 1,
+        targets: vec![states as u8 - 1; TABLE],
+        costs: vec![MOST_COST; TABLE],
+        accepting: 1 << (states - 1),
+    };
+    let (masks, limits) = (vec![rules.full_mask(); places], vec![u32::MAX; places]);
+    let lent = Lent::of(Problem { places, rules, masks, limits });
+    let output = vec![b'?'; sheet_of(&lent.rules).len()];
+    Lent { roster: vec![values as u8 - 1; places], output, ..lent }
+}
+
+/// The last value at the last place.
+fn last(lent: &Lent) -> (usize, usize) {
+    (lent.places - 1, lent.rules.values - 1)
+}
+
+/// The smallest and the largest of each size, and a place too many with all lengths right.
+pub fn sizes(script: &mut Script) {
+    let least_and_most = [(1, 1, 1), (366, 1, 1), (1, 64, 1), (1, 1, 16), (366, 64, 16)];
+    for (places, states, values) in [&least_and_most[..], &[(367, 64, 16)]].concat() {
+        script.begin(&format!("{places} places, {states} states, {values} values"));
+        let mut lent = dearest(places, states, values);
+        let (place, value) = last(&lent);
+        let first = Call::First { place, value: value as u8 };
+        let decisions = [keep(place, 1 << value), limit(place, MOST_LIMIT), limit(0, 999)];
+        let before = [Call::Filter, Call::Report, first, Call::Write, Call::Open, MARK];
+        for call in [&before[..], &decisions, &[BACK]].concat() {
             script.call(&mut lent, call);
         }
     }
-    script.begin("the largest problem, further calls");
-    let calls = [keep(365, 1 << 15), limit(365, MOST_LIMIT), limit(0, 999), Call::Write];
-    for call in calls {
-        script.call(&mut lent, call);
+}
+
+/// The dearest roster of all passes the last limit or does not.
+pub fn limits(script: &mut Script) {
+    script.begin("limits about 366,000");
+    let mut lent = dearest(366, 64, 16);
+    let (place, _) = last(&lent);
+    for most in [MOST_LIMIT - 1, MOST_LIMIT, MOST_LIMIT + 1, u32::MAX] {
+        lent.limits[place] = most;
+        let calls = [Call::Filter, Call::First { place, value: 0 }, Call::Open, MARK, BACK];
+        for call in calls {
+            script.call(&mut lent, call);
+        }
     }
-    lent.roster.fill(15);
-    script.call(&mut lent, Call::Report);
-    script.begin("a place too many");
-    lent.places = 367;
-    for slice in [Slice::Masks, Slice::Limits, Slice::Kept, Slice::Roster] {
-        lent.resize(slice, 367);
-    }
-    lent.resize(Slice::Work, work_length(367));
-    lent.resize(Slice::Session, memory_length(367));
-    for call in [Call::Filter, Call::First { place: 0, value: 0 }, Call::Report, Call::Open, MARK] {
-        script.call(&mut lent, call);
+    for most in [u32::MAX, MOST_LIMIT + 1, MOST_LIMIT, MOST_LIMIT - 1] {
+        script.call(&mut lent, limit(place, most));
     }
 }

@@ -1,13 +1,9 @@
 //! Full lists: "the 512th decision stands, the 513th gets 8", and the same for 64 marks.
 
+use super::memory::{DECISIONS, MARKS, ROWS};
 use super::walks::{keep, limit, open_on_w, BACK, MARK};
 use crate::script::{Call, Script};
 use crate::session::{MOST_DECISIONS, MOST_MARKS};
-
-/// Where the counts and the rows stand in the memory of three places.
-const DECISIONS: usize = 9;
-const MARKS: usize = 10;
-const ROWS: usize = 67;
 
 /// 512 decisions, the refusals then, and memory that holds a 513th.
 pub fn decisions(script: &mut Script) {

@@ -8,15 +8,15 @@ use crate::script::{Lent, Script};
 use crate::session::Entry;
 use crate::worked::w;
 
-/// Where the parts of the memory begin for the three places of `session_on_w`.
+/// Where the parts of the memory begin for three places.
 const RESULT: usize = 0;
 const LEAST: usize = 1;
 const KEPT: usize = 2;
 const SIZES: usize = 5;
-const DECISIONS: usize = 9;
-const MARKS: usize = 10;
+pub const DECISIONS: usize = 9;
+pub const MARKS: usize = 10;
 const SPARE: usize = 11;
-const ROWS: usize = 67;
+pub const ROWS: usize = 67;
 const OPENING_MASKS: usize = 1_795;
 const OPENING_LIMITS: usize = 1_798;
 const LENGTH: usize = 1_801;

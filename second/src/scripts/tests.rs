@@ -1,7 +1,7 @@
 use super::edges::CALLS;
 use super::order::refusals;
 use super::*;
-use crate::script::Call;
+use crate::script::{Call, CameTo};
 use crate::worked::{FIRST_CASES, KEPT_CASES};
 use std::collections::BTreeSet;
 
@@ -32,12 +32,13 @@ fn fields<T: ToString>(numbers: &[T]) -> String {
 fn every_call_meets_every_answer_that_it_can_give_and_no_other() {
     let script = fixed();
     let calls = script.printed().filter_map(|printed| printed.call.clone());
-    let met: BTreeSet<(&str, String)> = calls.collect();
-    let mut expected: BTreeSet<(&str, String)> =
-        ["kept", "none", "long", "sheet", "job"].map(|word| ("job", word.to_owned())).into();
+    let met: BTreeSet<(&str, CameTo)> = calls.collect();
+    let words = ["kept", "none", "long", "sheet", "job"];
+    let mut expected: BTreeSet<(&str, CameTo)> =
+        words.map(|word| ("job", CameTo::Word(word.to_owned()))).into();
     for call in CALLS.into_iter().filter(|call| *call != Call::Job) {
         let answers = refusals(call).iter().chain(&[0]);
-        expected.extend(answers.map(|answer| (call.name(), answer.to_string())));
+        expected.extend(answers.map(|answer| (call.name(), CameTo::Answer(*answer))));
     }
     assert_eq!(met, expected);
 }

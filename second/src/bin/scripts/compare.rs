@@ -1,6 +1,6 @@
 //! Scripts carried out by another program, and what it prints held against what it must print.
 
-use second::script::{Case, Printed, Script};
+use second::script::{CameTo, Case, Printed, Script};
 use second::scripts::Cases;
 use std::collections::BTreeMap;
 use std::io::{self, Read, Write};
@@ -54,7 +54,7 @@ struct Watch {
     passed: usize,
     failed: usize,
     /// How often each call came to each result.
-    tally: BTreeMap<(&'static str, String), usize>,
+    tally: BTreeMap<(&'static str, CameTo), usize>,
 }
 
 impl Watch {
