@@ -27,6 +27,8 @@ pub struct Printed {
     pub line: String,
     /// The call and what it came to, for the tally; none for a line that no call printed.
     pub call: Option<(&'static str, CameTo)>,
+    /// How many bytes of its case lead up to it.
+    pub end: usize,
 }
 
 /// A part of a script under one name, and the lines that it must print.
@@ -87,7 +89,7 @@ impl Script {
         assert!(ways_agree(lent, call), "the plain program's own ways differ: {call:?}, {lent:?}");
         let (came_to, line) = call.carry_out(lent);
         self.bench.take_over(lent, call);
-        self.add(text, Printed { line, call: Some((call.name(), came_to)) });
+        self.add(text, line, Some((call.name(), came_to)));
     }
 
     /// Shows a part of a slice as it was lent last.
@@ -95,19 +97,18 @@ impl Script {
         let entries = self.bench.lent(slice).iter().skip(place).take(count);
         let fields = entries.map(|entry| format!("\t{entry}")).collect::<String>();
         let text = format!("show\t{}\t{place}\t{count}\n", slice.name());
-        self.add(text.into_bytes(), Printed { line: format!("show{fields}"), call: None });
+        self.add(text.into_bytes(), format!("show{fields}"), None);
     }
 
     /// A line that is none of the format's.
     pub fn unknown(&mut self, line: &str) {
-        let printed = Printed { line: "unknown".to_owned(), call: None };
-        self.add(format!("{line}\n").into_bytes(), printed);
+        self.add(format!("{line}\n").into_bytes(), "unknown".to_owned(), None);
     }
 
-    fn add(&mut self, text: Vec<u8>, printed: Printed) {
+    fn add(&mut self, text: Vec<u8>, line: String, call: Option<(&'static str, CameTo)>) {
         let case = self.cases.last_mut().expect("a case was begun");
         case.text.extend(text);
-        case.printed.push(printed);
+        case.printed.push(Printed { line, call, end: case.text.len() });
     }
 }
 

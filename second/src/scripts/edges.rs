@@ -202,7 +202,7 @@ pub fn sizes(script: &mut Script) {
 /// The dearest roster of all passes the last limit or does not.
 pub fn limits(script: &mut Script) {
     script.begin("limits about 366,000");
-    let mut lent = dearest(366, 64, 16);
+    let mut lent = dearest(366, 1, 1);
     let (place, _) = last(&lent);
     for most in [MOST_LIMIT - 1, MOST_LIMIT, MOST_LIMIT + 1, u32::MAX] {
         lent.limits[place] = most;

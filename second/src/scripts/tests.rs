@@ -4,12 +4,15 @@ use super::*;
 use crate::script::{Call, CameTo};
 use crate::worked::{FIRST_CASES, KEPT_CASES};
 use std::collections::BTreeSet;
+use std::sync::OnceLock;
 
 /// "Checks run in the order 1, 2, 3, 4, 5, 12, 7, 8, 9, 10, 6, 11."
 const ORDER: [u32; 12] = [1, 2, 3, 4, 5, 12, 7, 8, 9, 10, 6, 11];
 
-fn fixed() -> Script {
-    written(1, 0)
+/// The fixed cases alone, written once for all tests.
+fn fixed() -> &'static Script {
+    static FIXED_CASES: OnceLock<Script> = OnceLock::new();
+    FIXED_CASES.get_or_init(|| written(1, 0))
 }
 
 fn written(seed: u64, wanted: usize) -> Script {
@@ -53,7 +56,7 @@ fn of_two_faults_the_one_that_is_checked_first_is_answered() {
         let earlier = (0..refusals.len()).flat_map(|later| &refusals[..=later]);
         let expected: Vec<String> = earlier.map(|answer| answer.to_string()).collect();
         let name = format!("two faults in {}", call.name());
-        let lines = printed_by(&script, &name);
+        let lines = printed_by(script, &name);
         let answers: Vec<&str> = lines.iter().filter_map(|line| line.split('\t').nth(1)).collect();
         assert_eq!(answers, expected, "{call:?}");
     }
@@ -65,17 +68,17 @@ fn k1_to_k12_print_what_the_paper_says() {
     for worked in KEPT_CASES {
         let numbers = [worked.answer, worked.least];
         let line = format!("filter{}\tkept{}", fields(&numbers), fields(worked.kept));
-        assert_eq!(printed_by(&script, worked.name), [line]);
+        assert_eq!(printed_by(script, worked.name), [line]);
     }
     for worked in FIRST_CASES {
         let line = format!("first\t0\troster{}", fields(worked.roster));
-        assert_eq!(printed_by(&script, worked.name), [line]);
+        assert_eq!(printed_by(script, worked.name), [line]);
     }
 }
 
 #[test]
 fn the_session_walk_shows_what_the_paper_says() {
-    let lines = printed_by(&fixed(), "the session walk on W");
+    let lines = printed_by(fixed(), "the session walk on W");
     let shown: Vec<&str> = lines.iter().filter_map(|line| line.strip_prefix("show\t")).collect();
     let (opened, limited) = ("0\t2\t7\t7\t7", "0\t2\t4\t1\t1");
     let kept = "0\t2\t5\t1\t5";

@@ -10,6 +10,8 @@ use std::thread;
 /// A script is carried out once it has as many bytes.
 const ENOUGH_BYTES: usize = 400_000;
 const DIFFERENCES_PRINTED: usize = 3;
+/// The most lines of a case that are printed with a difference.
+const LINES_PRINTED: usize = 60;
 
 /// Whether a program prints what it must, told on standard output.
 pub fn compare(mut cases: Cases, program: &str, arguments: &[&str]) -> io::Result<bool> {
@@ -81,12 +83,9 @@ impl Watch {
             return;
         }
         let is = line.map_or("nothing more".to_owned(), |line| line.escape_ascii().to_string());
-        let should = should.escape_default();
-        self.fail(&format!(
-            "{}:\n  printed   {is}\n  should be {should}{}",
-            case.name,
-            lines_of(case)
-        ));
+        let (name, should) = (&case.name, should.escape_default());
+        let lines = last_lines(&case.text[..expected.end]);
+        self.fail(&format!("{name}:\n  printed   {is}\n  should be {should}{lines}"));
     }
 
     /// Only the first failures are described.
@@ -104,8 +103,12 @@ impl Watch {
     }
 }
 
-/// The lines of a case, such that bytes that do not print can be read.
-fn lines_of(case: &Case) -> String {
-    let lines = case.text.split_inclusive(|byte| *byte == b'\n');
-    lines.map(|line| format!("\n    {}", line.escape_ascii())).collect()
+/// The lines of a case up to a difference, such that bytes that do not print can be read; of
+/// many lines the last ones.
+fn last_lines(text: &[u8]) -> String {
+    let lines: Vec<&[u8]> = text.split_inclusive(|byte| *byte == b'\n').collect();
+    let left_out = lines.len().saturating_sub(LINES_PRINTED);
+    let more = if left_out > 0 { format!("\n    ({left_out} lines)") } else { String::new() };
+    let last = lines[left_out..].iter().map(|line| format!("\n    {}", line.escape_ascii()));
+    last.fold(more, |all, line| all + &line)
 }
