@@ -50,10 +50,6 @@ impl Problem {
     pub fn case(&self) -> Case<'_> {
         Case { rules: &self.rules, masks: &self.masks, limits: &self.limits }
     }
-
-    pub fn is_right(&self) -> bool {
-        self.case().is_right(self.places)
-    }
 }
 
 /// A number from 1 to `most`, the ends more often than the rest.
@@ -230,7 +226,7 @@ mod tests {
             let mut random = Random::for_case(3, case);
             let scale = Scale::any(&mut random);
             let mut problem = problem(&mut random, scale);
-            assert!(problem.is_right(), "{problem:?}");
+            assert!(problem.case().is_right(problem.places), "{problem:?}");
             match case % 4 {
                 0 => damage_sizes(&mut random, &mut problem.places, &mut problem.rules),
                 1 => damage_tables(&mut random, &mut problem.rules),
@@ -240,7 +236,7 @@ mod tests {
                     problem.limits.resize(length, 0);
                 }
             }
-            refused += usize::from(!problem.is_right());
+            refused += usize::from(!problem.case().is_right(problem.places));
         }
         assert!((250..500).contains(&refused), "{refused} refused");
     }

@@ -12,8 +12,6 @@ mod problems;
 mod sheets;
 mod walks;
 
-pub use walks::open_on_w;
-
 use crate::random::Random;
 use crate::script::Script;
 
@@ -28,7 +26,7 @@ const FIXED: &[fn(&mut Script)] = &[
     edges::sizes,
     edges::limits,
     order::pairs,
-    memory::faults,
+    memory::written_by_others,
     memory::number_by_number,
     memory::other_rules,
     lists::decisions,

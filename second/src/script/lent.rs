@@ -75,7 +75,8 @@ pub struct Lent {
 }
 
 impl Lent {
-    /// Slices of the right lengths for a problem. The outputs hold what no call would leave.
+    /// Slices of the right lengths for a problem. Outputs hold 9s, so that zeros written there
+    /// are seen.
     pub fn of(problem: Problem) -> Lent {
         let Problem { places, rules, masks, limits } = problem;
         Lent {

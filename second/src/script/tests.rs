@@ -1,9 +1,11 @@
 //! A small program that carries scripts out, and scripts written and carried out.
 
 use super::*;
+use crate::cases::Problem;
 use crate::rules::Rules;
 use crate::scripts::Cases;
 use crate::session::Request;
+use crate::worked::w;
 
 /// The table of docs/CALLS.md: name, bits of an entry, room.
 const SLICES: [(&str, u32, usize); 10] = [
@@ -181,12 +183,18 @@ fn the_example_of_the_definition() {
     assert_eq!(Interpreter::carry_out(example.as_bytes()), ["filter\t0\t2\tkept\t7\t7\t7"]);
 }
 
+/// What K3 is lent.
+fn lent_on_w() -> Lent {
+    let (masks, limits) = (vec![7; 3], vec![366_000; 3]);
+    Lent::of(Problem { places: 3, rules: w(), masks, limits })
+}
+
 /// What a call finds on the bench already is not brought again.
 #[test]
 fn only_what_differs_is_brought() {
     let mut script = Script::default();
     script.begin("twice");
-    let mut lent = crate::scripts::open_on_w();
+    let mut lent = lent_on_w();
     script.call(&mut lent, Call::Filter);
     let before = script.bytes();
     script.call(&mut lent, Call::Filter);
@@ -204,7 +212,7 @@ fn only_what_differs_is_brought() {
 fn a_text_is_brought_whole_and_then_byte_by_byte() {
     let mut script = Script::default();
     script.begin("texts");
-    let mut lent = crate::scripts::open_on_w();
+    let mut lent = lent_on_w();
     lent.input = b"size\t2\t1\t0\nfinal\t0\nfinal\t1\n\xFF".to_vec();
     script.call(&mut lent, Call::Job);
     let lines = b"#\ttexts\nbytes\t28\nsize\t2\t1\t0\nfinal\t0\nfinal\t1\n\xFFjob\n";

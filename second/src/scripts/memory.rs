@@ -4,7 +4,7 @@
 use super::edges::stand;
 use super::walks::{keep, limit, open_on_w, BACK, MARK};
 use crate::rules::{Rules, NO_ARC};
-use crate::script::{Lent, Script};
+use crate::script::{Call, Lent, Script};
 use crate::session::Entry;
 use crate::worked::w;
 
@@ -33,8 +33,11 @@ fn session_on_w() -> Lent {
     lent
 }
 
-/// Numbers changed to others, place by place: each list is one call's memory.
-const CHANGES: &[&[(usize, u32)]] = &[
+/// Places of the memory and the numbers put there.
+type Change = &'static [(usize, u32)];
+
+/// What makes the memory one that no session leaves.
+const FAULTS: &[Change] = &[
     // The sizes held.
     &[(SIZES, 2)],
     &[(SIZES, 4)],
@@ -55,7 +58,7 @@ const CHANGES: &[&[(usize, u32)]] = &[
     // Spare numbers, the first and the last.
     &[(SPARE, 1)],
     &[(ROWS - 1, 1)],
-    // The keep: kind, place and mask out of range.
+    // The keep: its kind, place and mask out of range.
     &[(ROWS, 0)],
     &[(ROWS, 4)],
     &[(ROWS, 1 << 8 | 1)],
@@ -67,30 +70,18 @@ const CHANGES: &[&[(usize, u32)]] = &[
     // The mark with a place or an amount.
     &[(ROWS + 4, 1)],
     &[(ROWS + 5, 1)],
-    // The limit: its place out of range, and others that tell the same.
+    // The limit: its place out of range, and an amount that would show something else.
     &[(ROWS + 7, 3)],
-    &[(ROWS + 8, 366_000)],
-    &[(ROWS + 8, u32::MAX)],
-    &[(ROWS + 7, 2)],
-    // A limit that would tell something else.
     &[(ROWS + 8, 0)],
     // Behind the entries: an entry without a count, and the last number of all rows.
     &[(ROWS + 9, 3)],
     &[(ROWS + 11, 1)],
     &[(OPENING_MASKS - 1, 1)],
-    // One entry more, with its count: a decision that tells the same, and a mark.
-    &[(DECISIONS, 3), (ROWS + 9, 1), (ROWS + 11, 7)],
-    &[(MARKS, 2), (ROWS + 9, 3)],
-    // One entry less, with its count.
-    &[(DECISIONS, 1), (ROWS + 6, 0), (ROWS + 8, 0)],
-    // The opening masks: out of range, and one that tells the same.
+    // The opening masks: out of range, and one that would show something else.
     &[(OPENING_MASKS, 8 | 7)],
     &[(OPENING_MASKS, 1 << 16 | 7)],
-    &[(OPENING_MASKS, 5)],
     &[(OPENING_MASKS, 4)],
-    // The opening limits: any number is in range.
-    &[(OPENING_LIMITS, u32::MAX)],
-    &[(OPENING_LIMITS + 2, 2)],
+    // An opening limit that would show something else.
     &[(OPENING_LIMITS + 2, 1)],
     // What is shown: the result, the least cost and the kept masks.
     &[(RESULT, 11)],
@@ -103,21 +94,42 @@ const CHANGES: &[&[(usize, u32)]] = &[
     &[(RESULT, 11), (LEAST, 0), (KEPT, 0), (KEPT + 1, 0), (KEPT + 2, 0)],
 ];
 
-/// Each of the changes before each call upon a session.
-pub fn faults(script: &mut Script) {
+/// What makes the memory that of another session, which shows the same.
+const OTHER_SESSIONS: &[Change] = &[
+    // The limit of another amount, or at another place.
+    &[(ROWS + 8, 366_000)],
+    &[(ROWS + 8, u32::MAX)],
+    &[(ROWS + 7, 2)],
+    // One entry more, with its count: a decision, and a mark.
+    &[(DECISIONS, 3), (ROWS + 9, 1), (ROWS + 11, 7)],
+    &[(MARKS, 2), (ROWS + 9, 3)],
+    // One entry less, with its count.
+    &[(DECISIONS, 1), (ROWS + 6, 0), (ROWS + 8, 0)],
+    // Another opening.
+    &[(OPENING_MASKS, 5)],
+    &[(OPENING_LIMITS, u32::MAX)],
+    &[(OPENING_LIMITS + 2, 2)],
+];
+
+/// Calls upon memory that others have written.
+pub fn written_by_others(script: &mut Script) {
     for call in [keep(2, 7), limit(2, 9), MARK, BACK] {
-        script.begin(&format!("{} upon memory that others have written", call.name()));
-        for change in CHANGES {
-            let mut lent = session_on_w();
-            change.iter().for_each(|(place, number)| lent.session[*place] = *number);
-            script.call(&mut lent, call);
-        }
+        script.begin(&format!("{} upon memory that is not well-formed", call.name()));
+        FAULTS.iter().for_each(|change| call_upon_changed(script, change, call));
         for number in [0, 1, u32::MAX] {
             let mut lent = session_on_w();
             lent.session.fill(number);
             script.call(&mut lent, call);
         }
+        script.begin(&format!("{} upon the memory of another session", call.name()));
+        OTHER_SESSIONS.iter().for_each(|change| call_upon_changed(script, change, call));
     }
+}
+
+fn call_upon_changed(script: &mut Script, change: Change, call: Call) {
+    let mut lent = session_on_w();
+    change.iter().for_each(|(place, number)| lent.session[*place] = *number);
+    script.call(&mut lent, call);
 }
 
 /// Each number of the memory one larger.

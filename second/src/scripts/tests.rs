@@ -27,6 +27,12 @@ fn printed_by(script: &Script, name: &str) -> Vec<String> {
     cases.flat_map(|case| &case.printed).map(|printed| printed.line.clone()).collect()
 }
 
+/// The answers of the calls in the cases of this name.
+fn answers_by(script: &Script, name: &str) -> Vec<u32> {
+    let number = |line: &String| line.split('\t').nth(1).and_then(|field| field.parse().ok());
+    printed_by(script, name).iter().filter_map(number).collect()
+}
+
 fn fields<T: ToString>(numbers: &[T]) -> String {
     numbers.iter().map(|number| format!("\t{}", number.to_string())).collect()
 }
@@ -54,11 +60,9 @@ fn of_two_faults_the_one_that_is_checked_first_is_answered() {
         let in_order = ORDER.iter().filter(|answer| refusals.contains(answer));
         assert!(in_order.eq(refusals), "{call:?}");
         let earlier = (0..refusals.len()).flat_map(|later| &refusals[..=later]);
-        let expected: Vec<String> = earlier.map(|answer| answer.to_string()).collect();
+        let expected: Vec<u32> = earlier.copied().collect();
         let name = format!("two faults in {}", call.name());
-        let lines = printed_by(script, &name);
-        let answers: Vec<&str> = lines.iter().filter_map(|line| line.split('\t').nth(1)).collect();
-        assert_eq!(answers, expected, "{call:?}");
+        assert_eq!(answers_by(script, &name), expected, "{call:?}");
     }
 }
 
@@ -101,4 +105,26 @@ fn the_same_seed_gives_the_same_script_and_another_seed_another() {
 fn scripts_begin_with_the_same_cases_however_long_they_are() {
     let (short, long) = (written(3, fixed().calls() + 50), written(3, fixed().calls() + 300));
     assert_eq!(short.cases(), &long.cases()[..short.cases().len()]);
+}
+
+#[test]
+fn memory_that_is_not_well_formed_gets_12_and_that_of_another_session_is_taken() {
+    for call in ["keep", "limit", "mark", "back"] {
+        let wrong = answers_by(fixed(), &format!("{call} upon memory that is not well-formed"));
+        assert!(wrong.len() > 40 && wrong.iter().all(|answer| *answer == 12), "{call} {wrong:?}");
+        let right = answers_by(fixed(), &format!("{call} upon the memory of another session"));
+        assert_eq!(right, [0; 9], "{call}");
+    }
+}
+
+#[test]
+fn full_lists_take_no_more() {
+    let decisions = answers_by(fixed(), "512 decisions, and more");
+    let (taken, after) = decisions.split_at(514);
+    assert_eq!(taken, [0; 514]);
+    assert_eq!(after, [8, 8, 7, 7, 7, 0, 12, 0, 8, 0, 10, 0]);
+    let marks = answers_by(fixed(), "64 marks, and more");
+    assert_eq!(marks[..73], [0; 73]);
+    assert_eq!(marks[73..76], [9, 0, 12]);
+    assert_eq!(marks[76..], [vec![0; 64], vec![10, 0]].concat());
 }
