@@ -8,7 +8,7 @@ use crate::script::{Call, Lent, Script};
 use crate::sheet::sheet_of;
 
 /// How often a call is damaged: not at all, or up to three times.
-pub fn damages(random: &mut Random) -> usize {
+fn damages(random: &mut Random) -> usize {
     random.pick(&[0, 0, 0, 0, 0, 1, 1, 2, 3])
 }
 

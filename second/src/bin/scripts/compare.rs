@@ -23,7 +23,8 @@ pub fn compare(mut cases: Cases, program: &str, arguments: &[&str]) -> io::Resul
             break;
         }
         let mut command = Command::new(program);
-        let (printed, ended_well) = run(command.args(arguments), script.text())?;
+        let (printed, ended_well) = run(command.args(arguments), script.text())
+            .map_err(|error| io::Error::other(format!("{program}: {error}")))?;
         watch.hold_against(&script, &printed);
         if !ended_well {
             watch.fail("the program ended with a failure");
