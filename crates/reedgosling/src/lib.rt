@@ -10,6 +10,8 @@ ghost use Rattle.scribe.specs.Writing.{writeLeft, writeOf};
 ghost use Rattle.machine.specs.Sessions.{opening, deciding, marking, goingBack};
 ghost use Rattle.machine.specs.Calls.{left as leftIn};
 ghost use Rattle.session.specs.Calls.{opened, called};
+ghost use Rattle.text.specs.Writing.{Wrote};
+ghost use Rattle.job.specs.Job.{jobText};
 use kinds::State;
 use kinds::Value;
 use rules::Size;
@@ -314,4 +316,11 @@ pub extern "C" fn reedgosling_back(
     };
     let answer = session::back(places, size, targets, costs, accepting, memory, work);
     answer.number() as u32
+}
+
+#[no_mangle]
+pub extern "C" fn reedgosling_job(input: &[u8], output: &mut [u8]) -> usize
+    ensures { λ r. ⌜ Wrote (now (output .entry)) 0 (jobText (now (input .entry))) (now (output .exit)) r ⌝ }
+{
+    job::job(input, output)
 }

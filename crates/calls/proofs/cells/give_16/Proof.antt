@@ -1,0 +1,64 @@
+use native.Mathlib.Omega.{arith}
+use mathlib.Core.Path.{_≡_, refl}
+use lib.ListN.{length}
+use Prim.Native.Nat.{_-_}
+use borrow.Author.Needs.{needs}
+use Rattle.calls.proofs.cells.give_16.Statement.{statement}
+use Rattle.calls.proofs.cells.give_16.Tie as tie
+
+abbrev Inv-loop : tie.InvT-loop
+Inv-loop cells₀ lengths slice entries count k₀ cells k = length cells ≡ length cells₀
+
+abbrev μ-loop : tie.MeasureT-loop
+μ-loop cells₀ lengths slice entries count k₀ cells k = count - k
+
+lent-requires : tie.Need-lent-requires Inv-loop μ-loop
+lent-requires c κs = search needs
+
+loop-holds : tie.Need-loop-holds Inv-loop μ-loop
+loop-holds c = refl
+
+mul-number : tie.Need-mul-number Inv-loop μ-loop
+mul-number c = search needs
+
+shared-slice-read-number : tie.Need-shared-slice-read-number Inv-loop μ-loop
+shared-slice-read-number c = search needs
+
+cast-set : tie.Need-cast-set Inv-loop μ-loop
+cast-set c = omega (arith, c .before .shared-slice-known3 .given (c .before .before .before .loop .k))
+
+set-requires : tie.Need-set-requires Inv-loop μ-loop
+set-requires c κs = search needs
+
+add-k : tie.Need-add-k Inv-loop μ-loop
+add-k c = search needs
+
+loop-less : tie.Need-loop-less Inv-loop μ-loop
+loop-less c = search needs
+
+loop-again : tie.Need-loop-again Inv-loop μ-loop
+loop-again c = search needs
+
+same-length : tie.Need-same-length Inv-loop μ-loop
+same-length c = search needs
+
+returns : tie.Need-returns Inv-loop μ-loop
+returns c = search needs
+
+pub give-16-spec : {M : Type 1} → statement M
+give-16-spec =
+    tie.close
+    (tie.spec
+    Inv-loop
+    μ-loop
+    lent-requires
+    loop-holds
+    mul-number
+    shared-slice-read-number
+    cast-set
+    set-requires
+    add-k
+    loop-less
+    loop-again
+    same-length
+    returns)

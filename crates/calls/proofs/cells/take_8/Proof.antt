@@ -1,0 +1,61 @@
+use native.Mathlib.Omega.{arith}
+use mathlib.Core.Path.{_≡_, refl}
+use lib.ListN.{length}
+use Prim.Native.Nat.{_-_}
+use Rattle.io.proofs.Counting.{counts}
+use borrow.Author.Needs.{needs}
+use Rattle.calls.proofs.cells.take_8.Statement.{statement}
+use Rattle.calls.proofs.cells.take_8.Tie as tie
+
+abbrev Inv-loop : tie.InvT-loop
+Inv-loop cells lengths slice entries₀ count k₀ entries k = length entries ≡ length entries₀
+
+abbrev μ-loop : tie.MeasureT-loop
+μ-loop cells lengths slice entries₀ count k₀ entries k = count - k
+
+lent-requires : tie.Need-lent-requires Inv-loop μ-loop
+lent-requires c κs = search needs
+
+loop-holds : tie.Need-loop-holds Inv-loop μ-loop
+loop-holds c = refl
+
+entry-requires : tie.Need-entry-requires Inv-loop μ-loop
+entry-requires c κs = search needs
+
+cast-entries : tie.Need-cast-entries Inv-loop μ-loop
+cast-entries c = search needs
+
+slice-write-entries : tie.Need-slice-write-entries Inv-loop μ-loop
+slice-write-entries c = search needs
+
+add-k : tie.Need-add-k Inv-loop μ-loop
+add-k c = search needs
+
+loop-less : tie.Need-loop-less Inv-loop μ-loop
+loop-less c = search needs
+
+loop-again : tie.Need-loop-again Inv-loop μ-loop
+loop-again c = search needs
+
+same-length : tie.Need-same-length Inv-loop μ-loop
+same-length c = search needs
+
+returns : tie.Need-returns Inv-loop μ-loop
+returns c = counts _ _ (omega (arith, c .before .loop .inv))
+
+pub take-8-spec : {M : Type 1} → statement M
+take-8-spec =
+    tie.close
+    (tie.spec
+    Inv-loop
+    μ-loop
+    lent-requires
+    loop-holds
+    entry-requires
+    cast-entries
+    slice-write-entries
+    add-k
+    loop-less
+    loop-again
+    same-length
+    returns)
