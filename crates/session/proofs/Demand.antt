@@ -1,7 +1,8 @@
 -- Demand 3: after an opening that is not refused and any calls, refused ones among them, what is read in the memory is what a filter
--- tells of the opening with the decisions neither refused nor taken back; and a filter of what is kept tells the same. Assumes nothing.
+-- tells of the opening with the decisions neither refused nor taken back, and a filter of what is kept tells the same. Each call is
+-- handed a rule set anew: the filter's is that of the newest call not refused. Assumes nothing.
 use mathlib.Core.Path.{_≡_, refl, ap, _∙_}
-use mathlib.Core.Bool.{Bool, true, false, not, _&&_}
+use mathlib.Core.Bool.{Bool, true, false, cond, not, _&&_}
 use mathlib.Core.Logic.{⊎-elim, _⊎_}
 use mathlib.Core.List.{List, [], _∷_, _++_, append-nil}
 use Prim.Native.Nat.{ℕ, zero, suc, _+_, _≤_}
@@ -12,19 +13,19 @@ use borrow.Author.Tests.{ltb-true}
 use Rattle.rules.specs.Meaning.{Rules, Place, places, Decision, told}
 use Rattle.rules.specs.Answers.{Check, check, decided, swept}
 use Rattle.rules.specs.Checks.{Handed}
-use Rattle.rules.proofs.Checks.{both}
+use Rattle.rules.proofs.Checks.{both, size-of, sizes-of}
 use Rattle.rules.proofs.Decisions.{told-again}
-use Rattle.machine.specs.Room.{mostDecisions, mostMarks}
+use Rattle.machine.specs.Room.{mostDecisions, mostMarks, memorySize}
 use Rattle.machine.specs.Sessions.{Opening, Entry, decision, mark, isMark, marks, isDecision, decisions, standing, placesBy, toldBy, Ask, deciding, marking, goingBack, askChecks, after, backTo, entryRight, entriesRight, Fits}
 use Rattle.machine.specs.Memory.{shownOf, imageOf, entriesOf, openingOf, heldIn}
 use Rattle.machine.specs.Calls.{Left, left, readyChecks}
 use Rattle.machine.proofs.Below.{told-answers}
 use Rattle.machine.proofs.Numbers.{and-both}
-use Rattle.machine.proofs.Decided.{Passed}
-use Rattle.machine.proofs.WellFormed.{told-by-long, image-entries, image-opening}
+use Rattle.machine.proofs.Decided.{Passed, memory-of}
+use Rattle.machine.proofs.WellFormed.{told-by-long, image-entries, image-opening, image-long, formed-fits}
 use Rattle.session.specs.Calls.{became, callChecks, called, openChecks, opened}
 use Rattle.session.proofs.Opens.{lengths-of}
-use Rattle.session.specs.History.{Call, memoryAfter, Seen, seen, seenOf, granted, stands, toPass, standingAfter, Reads, limitsOf}
+use Rattle.session.specs.History.{Call, made, memoryAfter, Seen, seen, seenOf, granted, lastHanded, SameRules, stands, toPass, standingAfter, Reads, limitsOf}
 
 -- no check of the list answers 0 or 11
 abbrev refusing : List Check → Bool
@@ -48,10 +49,6 @@ decided-case P refuse done (check n false ∷ ks) e f g = f n (not-granted (gran
     not-granted : (b : Bool) → not b ≡ true → b ≡ false
     not-granted true h = cc
     not-granted false h = refl
-
-passed-rest : (ks ls : List Check) → Passed (ks ++ ls) → Passed ls
-passed-rest [] ls p = p
-passed-rest (check n ok ∷ ks) ls p = passed-rest ks ls (p .1)
 
 -- the session after a call that is not refused is within its bounds
 module _ (n v : ℕ) (o : Opening) where
@@ -90,25 +87,45 @@ module _ (n v : ℕ) (o : Opening) where
   after-fits marking es f p = more mark es f refl (omega (arith, f .few)) (omega (arith, ltb-true (marks es) mostMarks (p .0)))
   after-fits goingBack es f p = back-fits es f
 
--- a call upon the image of a session leaves the image of a session
-module _ (h : Handed) (o : Opening) where
-  abbrev Inside : List Entry → Type 0
-  Inside es = Fits (h .places) (h .rules .arcs .values) o es
+abbrev Inside : Handed → Opening → List Entry → Type 0
+Inside h o es = Fits (h .places) (h .rules .arcs .values) o es
 
-  data Stepped (a : Ask) (es : List Entry) (x : Left) : Type 0 where
-    refused : granted (x .answer) ≡ false → x .memory ≡ imageOf h o es → Stepped a es x
-    done : granted (x .answer) ≡ true → x .memory ≡ imageOf h o (after a es) → Inside (after a es) → Stepped a es x
+-- memory that is ready for a call holds the same session, whatever the call is handed
+module _ (h k : Handed) (o : Opening) (es : List Entry) (m w : List ℕ) (f : Inside h o es) (e : m ≡ imageOf h o es)
+    (p : Passed (readyChecks k m w)) where
+  memory-long : length m ≡ memorySize (k .places)
+  memory-long = memory-of k (length m) w (p .0, (p .1 .0, (p .1 .1 .0, tt)))
 
-  told-granted : (ds : List Decision) → granted (toldBy h o ds .answered) ≡ true
+  same-places : k .places ≡ h .places
+  same-places = let a = memory-long in omega (arith, image-long h o es f, ap length e)
+
+  same-opening : openingOf (k .places) (heldIn (k .places) m) ≡ o
+  same-opening = rw (same-places, e) (image-opening h o es f)
+
+  same-entries : entriesOf (heldIn (k .places) m) ≡ es
+  same-entries = rw (same-places, e) (image-entries h o es f)
+
+  same-inside : Inside k o es
+  same-inside =
+      let s = sizes-of _ _ _ _ (p .0) in
+      rw (same-opening, same-entries) at (formed-fits k m memory-long (s .some-places) (s .few-places) (size-of _ _ _ (s .size) .few-values) (p .1 .1 .1 .0))
+
+-- a call upon it leaves it as it was, or leaves the image, by what the call is handed, of the session after what it asks
+module _ (k : Handed) (o : Opening) where
+  data Stepped (a : Ask) (es : List Entry) (m : List ℕ) (x : Left) : Type 0 where
+    refused : granted (x .answer) ≡ false → x .memory ≡ m → Stepped a es m x
+    done : granted (x .answer) ≡ true → x .memory ≡ imageOf k o (after a es) → Inside k o (after a es) → Stepped a es m x
+
+  told-granted : (ds : List Decision) → granted (toldBy k o ds .answered) ≡ true
   unfolding granted toldBy
-  told-granted ds = ⊎-elim (λ e. rw e) (λ e. rw e) (told-answers (h .rules) (h .start) 0 (placesBy o ds))
+  told-granted ds = ⊎-elim (λ e. rw e) (λ e. rw e) (told-answers (k .rules) (k .start) 0 (placesBy o ds))
 
-  became-granted : (es : List Entry) (w : List ℕ) → (granted (became h o es w .answer) ≡ true) × (became h o es w .memory ≡ imageOf h o es)
+  became-granted : (es : List Entry) (w : List ℕ) → (granted (became k o es w .answer) ≡ true) × (became k o es w .memory ≡ imageOf k o es)
   unfolding became
   became-granted es w = (told-granted (standing es), refl)
 
   abbrev asked : Ask → List Entry → List Check
-  asked a es = askChecks (h .places) (h .rules .arcs .values) a es
+  asked a es = askChecks (k .places) (k .rules .arcs .values) a es
 
   refusing-ask : (a : Ask) (es : List Entry) → refusing (asked a es) ≡ true
   unfolding granted
@@ -116,23 +133,24 @@ module _ (h : Handed) (o : Opening) where
   refusing-ask marking es = refl
   refusing-ask goingBack es = refl
 
-  refusing-ready : (m w : List ℕ) → refusing (readyChecks h m w) ≡ true
+  refusing-ready : (m w : List ℕ) → refusing (readyChecks k m w) ≡ true
   unfolding granted
   refusing-ready m w = refl
 
-  stepped : (a : Ask) (es : List Entry) (w : List ℕ) → Inside es → Stepped a es (called h a (imageOf h o es) w)
+  stepped : (h : Handed) (a : Ask) (es : List Entry) (m w : List ℕ) → Inside h o es → m ≡ imageOf h o es → Stepped a es m (called k a m w)
   unfolding called
-  stepped a es w f =
-      let m : List ℕ = imageOf h o es in
-      let l : List ℕ = heldIn (h .places) m in
-      decided-case (Stepped a es) (λ n. left n m (swept n w)) (became h (openingOf (h .places) l) (after a (entriesOf l)) w)
-      (callChecks h a m w) (refusing-more (readyChecks h m w) (asked a (entriesOf l)) (refusing-ready m w) (refusing-ask a (entriesOf l)))
+  stepped h a es m w f e =
+      let l : List ℕ = heldIn (k .places) m in
+      decided-case (Stepped a es m) (λ n. left n m (swept n w)) (became k (openingOf (k .places) l) (after a (entriesOf l)) w)
+      (callChecks k a m w) (refusing-more (readyChecks k m w) (asked a (entriesOf l)) (refusing-ready m w) (refusing-ask a (entriesOf l)))
       (λ n e. refused e refl)
       (λ p.
-      let q : Passed (asked a (entriesOf l)) = passed-rest (readyChecks h m w) (asked a (entriesOf l)) p in
-      rw (image-opening h o es f, image-entries h o es f)
+      let r : Passed (readyChecks k m w) = (p .0, (p .1 .0, (p .1 .1 .0, (p .1 .1 .1 .0, tt)))) in
+      let q : Passed (asked a (entriesOf l)) = p .1 .1 .1 .1 in
+      let i = same-entries h k o es m w f e r in
+      rw (same-opening h k o es m w f e r, i)
       (let b = became-granted (after a es) w in
-      done (b .0) (b .1) (after-fits (h .places) (h .rules .arcs .values) o a es f (rw (image-entries h o es f) at q))))
+      done (b .0) (b .1) (after-fits (k .places) (k .rules .arcs .values) o a es (same-inside h k o es m w f e r) (rw i at q))))
 
 -- j times back
 backs : ℕ → List Entry → List Entry
@@ -181,41 +199,65 @@ same-length (p ∷ ps) = ap suc (same-length ps)
 again : (r : Rules) (q : ℕ) (ps : List Place) → told r q 0 (places (told r q 0 ps .masks) (limitsOf ps)) ≡ told r q 0 ps
 again r q ps = rw (places-of ps) at (told-again r q 0 (masksOf ps) (limitsOf ps) (same-length ps))
 
--- the session that the calls have come to
-module _ (h : Handed) (o : Opening) where
-  record Reached (m : List ℕ) (log : List Seen) : Type 0 where
+-- the session that the calls have come to, by what was last handed
+module _ (o : Opening) where
+  record Reached (h : Handed) (m : List ℕ) (log : List Seen) : Type 0 where
     entries : List Entry
-    inside : Fits (h .places) (h .rules .arcs .values) o entries
+    inside : Inside h o entries
     image : m ≡ imageOf h o entries
     as-seen : (j : ℕ) → standingAfter j log ≡ standing (backs j entries)
 
-  step-on : (a : Ask) (w m : List ℕ) (log : List Seen) → Reached m log → Reached (called h a m w .memory) (seen a (called h a m w .answer) ∷ log)
-  step-on a w m log r = rw (r .image) (go (called h a (imageOf h o (r .entries)) w) (stepped h o a (r .entries) w (r .inside)))
+  step-on : (h : Handed) (c : Call) (m : List ℕ) (log : List Seen) → Reached h m log
+      → Reached (cond (granted (made c m .answer)) (c .handed) h) (made c m .memory) (seen (c .ask) (made c m .answer) ∷ log)
+  step-on h c m log r = go (made c m) (stepped (c .handed) o h (c .ask) (r .entries) m (c .work) (r .inside) (r .image))
     where
-      go : (x : Left) → Stepped h o a (r .entries) x → Reached (x .memory) (seen a (x .answer) ∷ log)
-      go x (refused e i) = record { entries = r .entries; inside = r .inside; image = i; as-seen = stands-refused (r .entries) log (r .as-seen) a (x .answer) e }
-      go x (done e i f) = record { entries = after a (r .entries); inside = f; image = i; as-seen = stands-done (r .entries) log (r .as-seen) a (x .answer) e }
+      go : (x : Left) → Stepped (c .handed) o (c .ask) (r .entries) m x
+          → Reached (cond (granted (x .answer)) (c .handed) h) (x .memory) (seen (c .ask) (x .answer) ∷ log)
+      go x (refused e i) =
+          rw (e, i) (record {
+            entries = r .entries;
+            inside = r .inside;
+            image = r .image;
+            as-seen = stands-refused (r .entries) log (r .as-seen) (c .ask) (x .answer) e;
+          })
+      go x (done e i f) =
+          rw e (record {
+            entries = after (c .ask) (r .entries);
+            inside = f;
+            image = i;
+            as-seen = stands-done (r .entries) log (r .as-seen) (c .ask) (x .answer) e;
+          })
 
-  reached : (m : List ℕ) → m ≡ imageOf h o [] → Fits (h .places) (h .rules .arcs .values) o [] → (cs : List Call)
-      → Reached (memoryAfter h m cs) (seenOf h m cs)
-  unfolding memoryAfter seenOf
-  reached m e f [] = record { entries = []; inside = f; image = e; as-seen = nothing-stands }
-  reached m e f (c ∷ cs) = step-on (c .ask) (c .work) (memoryAfter h m cs) (seenOf h m cs) (reached m e f cs)
-
-  reads-of : (es : List Entry) → Fits (h .places) (h .rules .arcs .values) o es → Reads (h .places) (imageOf h o es) (toldBy h o (standing es))
+  reads-of : (h : Handed) (es : List Entry) → Inside h o es → Reads (h .places) (imageOf h o es) (toldBy h o (standing es))
   unfolding imageOf shownOf
-  reads-of es f = record {
+  reads-of h es f = record {
     result = refl;
     least = refl;
     kept = take-at (toldBy h o (standing es) .masks) _ (h .places) (told-by-long h o (standing es) (f .masks-long) (f .limits-long));
   }
 
+module _ (h : Handed) (o : Opening) where
+  reached : (m : List ℕ) → m ≡ imageOf h o [] → Inside h o [] → (cs : List Call) → Reached o (lastHanded h m cs) (memoryAfter m cs) (seenOf m cs)
+  unfolding memoryAfter seenOf lastHanded
+  reached m e f [] = record { entries = []; inside = f; image = e; as-seen = nothing-stands }
+  reached m e f (c ∷ cs) = step-on o (lastHanded h m cs) c (memoryAfter m cs) (seenOf m cs) (reached m e f cs)
+
+  -- where every call not refused was handed what the opening was, that is what was last handed
+  pub same-rules : (m : List ℕ) (cs : List Call) → SameRules h m cs → lastHanded h m cs ≡ h
+  unfolding SameRules lastHanded
+  same-rules m [] s = refl
+  same-rules m (c ∷ cs) s = go (granted (made c (memoryAfter m cs) .answer)) (s .0) (same-rules m cs (s .1))
+    where
+      go : (b : Bool) → (b ≡ true → c .handed ≡ h) → lastHanded h m cs ≡ h → cond b (c .handed) (lastHanded h m cs) ≡ h
+      go true e i = e refl
+      go false e i = i
+
   -- an opening that is not refused leaves the image of the opening
   data Opened (x : Left) : Type 0 where
     refused-open : granted (x .answer) ≡ false → Opened x
-    done-open : x .memory ≡ imageOf h o [] → Fits (h .places) (h .rules .arcs .values) o [] → Opened x
+    done-open : x .memory ≡ imageOf h o [] → Inside h o [] → Opened x
 
-  opening-fits : (m w : List ℕ) → Passed (openChecks h o m w) → Fits (h .places) (h .rules .arcs .values) o []
+  opening-fits : (m w : List ℕ) → Passed (openChecks h o m w) → Inside h o []
   unfolding entriesRight decisions marks
   opening-fits m w p =
       let a = lengths-of (h .places) (h .rules .arcs .targets) (h .rules .arcs .costs) o (length m) (length w) (p .1 .0) in
@@ -238,27 +280,32 @@ module _ (h : Handed) (o : Opening) where
     abbrev start : List ℕ
     start = opened h o m w .memory
 
+    -- what was last handed, by the opening or by a call not refused
+    abbrev now : Handed
+    now = lastHanded h start cs
+
     -- the decisions neither refused nor taken back, and the limits under them
     abbrev ds : List Decision
-    ds = standingAfter 0 (seenOf h start cs)
+    ds = standingAfter 0 (seenOf start cs)
 
     abbrev limits-now : List ℕ
     limits-now = limitsOf (placesBy o ds)
 
-    -- DEMAND 3
-    pub session-tells : Reads (h .places) (memoryAfter h start cs) (toldBy h o ds)
-    unfolding backs
-    session-tells = go (opened-case m w)
+    come-to : Reached o now (memoryAfter start cs) (seenOf start cs)
+    come-to = go (opened-case m w)
       where
-        go : Opened (opened h o m w) → Reads (h .places) (memoryAfter h start cs) (toldBy h o ds)
+        go : Opened (opened h o m w) → Reached o now (memoryAfter start cs) (seenOf start cs)
         go (refused-open e) = absurd (let z : _≡_ {A = ℕ} 0 1 = cc in omega arith)
-        go (done-open e f) =
-            let r = reached start e f cs in
-            rw (r .image, r .as-seen 0) (reads-of (r .entries) (r .inside))
+        go (done-open e f) = reached start e f cs
+
+    -- DEMAND 3
+    pub session-tells : Reads (now .places) (memoryAfter start cs) (toldBy now o ds)
+    unfolding backs
+    session-tells = let r = come-to in rw (r .image, r .as-seen 0) (reads-of o now (r .entries) (r .inside))
 
     -- the choices left standing, filtered once more under the same limits, tell the same
-    pub session-again : told (h .rules) (h .start) 0 (places (take (h .places) (drop 2 (memoryAfter h start cs))) limits-now) ≡ toldBy h o ds
+    pub session-again : told (now .rules) (now .start) 0 (places (take (now .places) (drop 2 (memoryAfter start cs))) limits-now) ≡ toldBy now o ds
     unfolding toldBy
     session-again =
-        ap (λ (ks : List ℕ). told (h .rules) (h .start) 0 (places ks limits-now)) (session-tells .kept)
-        ∙ again (h .rules) (h .start) (placesBy o ds)
+        ap (λ (ks : List ℕ). told (now .rules) (now .start) 0 (places ks limits-now)) (session-tells .kept)
+        ∙ again (now .rules) (now .start) (placesBy o ds)

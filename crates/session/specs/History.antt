@@ -1,6 +1,6 @@
 -- A list of calls, the newest first: the memory after them, the answers, and, said of calls and answers alone, which decisions stand.
 use mathlib.Core.Path.{_≡_}
-use mathlib.Core.Bool.{Bool, cond, _||_}
+use mathlib.Core.Bool.{Bool, true, cond, _||_}
 use mathlib.Core.List.{List, [], _∷_, _++_}
 use Prim.Native.Nat.{ℕ, zero, suc}
 use lib.Dec.{eqb}
@@ -8,17 +8,23 @@ use lib.ListN.{getD, take, drop}
 use Rattle.rules.specs.Meaning.{Place, Decision, Told}
 use Rattle.rules.specs.Checks.{Handed}
 use Rattle.machine.specs.Sessions.{Ask, deciding, marking, goingBack}
+use Rattle.machine.specs.Calls.{Left}
 use Rattle.session.specs.Calls.{called}
 
--- a call: what it asks, and the work table that it is lent
+-- a call: what it is handed and asks, and the work table that it is lent
 pub record Call : Type 0 where
+  pub handed : Handed
   pub ask : Ask
   pub work : List ℕ
 
--- the memory after the calls, each lent the rule set h and the memory as the last left it
-unfoldable pub memoryAfter : Handed → List ℕ → List Call → List ℕ
-memoryAfter h m [] = m
-memoryAfter h m (c ∷ cs) = called h (c .ask) (memoryAfter h m cs) (c .work) .memory
+-- what a call answers and leaves, lent the memory m
+abbrev pub made : Call → List ℕ → Left
+made c m = called (c .handed) (c .ask) m (c .work)
+
+-- the memory after the calls, each lent the memory as the last left it
+unfoldable pub memoryAfter : List ℕ → List Call → List ℕ
+memoryAfter m [] = m
+memoryAfter m (c ∷ cs) = made c (memoryAfter m cs) .memory
 
 -- what the caller saw: what each call asked, and its answer
 pub record Seen : Type 0 where
@@ -28,13 +34,23 @@ pub record Seen : Type 0 where
 abbrev pub seen : Ask → ℕ → Seen
 seen a n = record { ask = a; answer = n }
 
-unfoldable pub seenOf : Handed → List ℕ → List Call → List Seen
-seenOf h m [] = []
-seenOf h m (c ∷ cs) = seen (c .ask) (called h (c .ask) (memoryAfter h m cs) (c .work) .answer) ∷ seenOf h m cs
+unfoldable pub seenOf : List ℕ → List Call → List Seen
+seenOf m [] = []
+seenOf m (c ∷ cs) = seen (c .ask) (made c (memoryAfter m cs) .answer) ∷ seenOf m cs
 
 -- not refused: 0, or 11, which is a result
 unfoldable pub granted : ℕ → Bool
 granted n = eqb n 0 || eqb n 11
+
+-- what the newest call not refused was handed; where all were refused, h, which the opening was
+unfoldable pub lastHanded : Handed → List ℕ → List Call → Handed
+lastHanded h m [] = h
+lastHanded h m (c ∷ cs) = cond (granted (made c (memoryAfter m cs) .answer)) (c .handed) (lastHanded h m cs)
+
+-- every call not refused was handed h; a refused one may have been handed anything
+unfoldable pub SameRules : Handed → List ℕ → List Call → Type 0
+SameRules h m [] = Unit {0}
+SameRules h m (c ∷ cs) = (granted (made c (memoryAfter m cs) .answer) ≡ true → c .handed ≡ h) × SameRules h m cs
 
 -- The calls are read from the newest back, with j marks still to be passed. A decision stands where none is: no later back, itself
 -- not refused, has taken it back. Such a back takes back all down to the newest mark before it that is still open
