@@ -1,6 +1,6 @@
 -- Demand 3: after an opening that is not refused and any calls, refused ones among them, what is read in the memory is what a filter
 -- tells of the opening with the decisions neither refused nor taken back, and a filter of what is kept tells the same. Each call is
--- handed a rule set anew: the filter's is that of the newest call not refused. Assumes nothing.
+-- handed a rule set anew: the filter's is that of the newest call not refused. The memory is well-formed for it. Assumes nothing.
 use mathlib.Core.Path.{_≡_, refl, ap, _∙_}
 use mathlib.Core.Bool.{Bool, true, false, cond, not, _&&_}
 use mathlib.Core.Logic.{⊎-elim, _⊎_}
@@ -17,12 +17,12 @@ use Rattle.rules.proofs.Checks.{both, size-of, sizes-of}
 use Rattle.rules.proofs.Decisions.{told-again}
 use Rattle.machine.specs.Room.{mostDecisions, mostMarks, memorySize}
 use Rattle.machine.specs.Sessions.{Opening, Entry, decision, mark, isMark, marks, isDecision, decisions, standing, placesBy, toldBy, Ask, deciding, marking, goingBack, askChecks, after, backTo, entryRight, entriesRight, Fits}
-use Rattle.machine.specs.Memory.{shownOf, imageOf, entriesOf, openingOf, heldIn}
+use Rattle.machine.specs.Memory.{shownOf, imageOf, entriesOf, openingOf, heldIn, wellFormed}
 use Rattle.machine.specs.Calls.{Left, left, readyChecks}
 use Rattle.machine.proofs.Below.{told-answers}
 use Rattle.machine.proofs.Numbers.{and-both}
 use Rattle.machine.proofs.Decided.{Passed, memory-of}
-use Rattle.machine.proofs.WellFormed.{told-by-long, image-entries, image-opening, image-long, formed-fits}
+use Rattle.machine.proofs.WellFormed.{told-by-long, image-entries, image-opening, image-long, image-right, formed-fits}
 use Rattle.session.specs.Calls.{became, callChecks, called, openChecks, opened}
 use Rattle.session.proofs.Opens.{lengths-of}
 use Rattle.session.specs.History.{Call, made, memoryAfter, Seen, seen, seenOf, granted, lastHanded, SameRules, stands, toPass, standingAfter, Reads, limitsOf}
@@ -309,3 +309,7 @@ module _ (h : Handed) (o : Opening) where
     session-again =
         ap (λ (ks : List ℕ). told (now .rules) (now .start) 0 (places ks limits-now)) (session-tells .kept)
         ∙ again (now .rules) (now .start) (placesBy o ds)
+
+    -- the memory is well-formed, as answer 12 has it
+    pub session-formed : wellFormed now (memoryAfter start cs) ≡ true
+    session-formed = let r = come-to in rw (r .image) (image-right now o (r .entries) (r .inside))
