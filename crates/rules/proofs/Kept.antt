@@ -1,15 +1,17 @@
--- The kept masks: their bits, their bound, and that nothing else has both.
+-- The kept masks: their bits, their bound, and that nothing else has both; the first roster of a kept value; what no roster leaves.
 use mathlib.Core.Path.{_≡_, refl, sym, ap, _∙_}
-use mathlib.Core.List.{List, map}
+use mathlib.Core.Bool.{Bool, true, false, cond, _||_}
+use mathlib.Core.List.{List, [], _∷_, map}
 use Prim.Native.Nat.{ℕ, zero, suc, _+_, _^_, _<_}
 use native.Mathlib.Nat.{zero-add}
 use native.Mathlib.Omega.{arith}
-use lib.ListN.{length, getD}
+use lib.ListN.{length, getD, take, replicate, length-replicate, getD-replicate}
+use lib.Pow.{pow-pos}
 use lib.Seq.{ext-getD}
 use Rattle.kinds.specs.Bits.{bit}
-use Rattle.kinds.proofs.Bits.{bit-mask, mask-lt, mask-is}
-use Rattle.rules.specs.Lists.{from, any}
-use Rattle.rules.specs.Meaning.{has, keptAt, kept}
+use Rattle.kinds.proofs.Bits.{bit-none, bit-mask, mask-lt, mask-is}
+use Rattle.rules.specs.Lists.{from, those, any}
+use Rattle.rules.specs.Meaning.{Rules, Place, rosters, has, keptAt, kept, first, answer, toldOf, tell, told}
 
 -- the kept mask of a place has the values that some roster has there
 pub kept-bit : (vs : ℕ) (ws : List (List ℕ)) (i v : ℕ) → v < vs → bit (keptAt vs ws i) v ≡ any (has i v) ws
@@ -57,3 +59,32 @@ kept-unique vs n ws ms e below right =
   where
     same : (i : ℕ) → i < n → getD ms i 0 ≡ getD (kept vs n ws) i 0
     same i h = mask-is (λ v. any (has i v) ws) vs (getD ms i 0) (below i h) (λ v k. right i v h k) ∙ sym (kept-at vs n ws i h)
+
+-- a kept value has a first roster, and any other value has none
+pub kept-first : (vs n : ℕ) (ws : List (List ℕ)) (i v : ℕ) → i < n → v < vs → answer (first i v ws) ≡ cond (bit (getD (kept vs n ws) i 0) v) 0 11
+unfolding first
+kept-first vs n ws i v h k = some ws ∙ ap (λ (b : Bool). cond b 0 11) (sym (kept-has vs n ws i v h k))
+  where
+    some : (ws : List (List ℕ)) → answer (take 1 (those (has i v) ws)) ≡ cond (any (has i v) ws) 0 11
+    some [] = refl
+    some (w ∷ ws) = go (has i v w) (some ws)
+      where
+        go : (b : Bool) → answer (take 1 (those (has i v) ws)) ≡ cond (any (has i v) ws) 0 11
+            → answer (take 1 (cond b (w ∷ those (has i v) ws) (those (has i v) ws))) ≡ cond (b || any (has i v) ws) 0 11
+        go true e = refl
+        go false e = e
+
+-- of no roster every kept mask is 0
+pub kept-none : (vs n : ℕ) → kept vs n [] ≡ replicate n 0
+kept-none vs n =
+    sym (kept-unique vs n [] (replicate n 0) (length-replicate n 0)
+    (λ i h. rw getD-replicate (pow-pos vs)) (λ i v h k. rw getD-replicate (bit-none v)))
+
+-- where the answer is 11, every kept mask is 0, and the least cost
+pub told-nothing : (r : Rules) (q c : ℕ) (ps : List Place) → told r q c ps .answered ≡ 11 → told r q c ps ≡ toldOf 11 (replicate (length ps) 0) 0
+unfolding told
+told-nothing r q c ps h = go (rosters r q c ps) h
+  where
+    go : (ws : List (List ℕ)) → answer ws ≡ 11 → tell (r .arcs) q c (length ps) ws ≡ toldOf 11 (replicate (length ps) 0) 0
+    go [] h = ap (λ (ks : List ℕ). toldOf 11 ks 0) (kept-none (r .arcs .values) (length ps))
+    go (w ∷ ws) h = absurd (omega arith)
