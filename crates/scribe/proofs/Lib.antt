@@ -1,4 +1,3 @@
-pub mod Lengths
 pub mod Longest
 pub mod Puts
 pub mod Outcomes

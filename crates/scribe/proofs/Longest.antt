@@ -24,10 +24,21 @@ use Rattle.text.proofs.Decimals.{decimal-small, decimal-step}
 use Rattle.sheet.proofs.Texts.{Rising, Sheeted, sheet-read}
 use Rattle.sheet.proofs.Tables.{all-at, rising-down}
 use Rattle.sheet.proofs.Filled.{place-top}
-use Rattle.scribe.proofs.Lengths.{size-length, final-length, arc-length}
 
 abbrev pub longest : ℕ
 longest = 18212
+
+-- the lengths of lines and of their numbers
+field-length : (n b : ℕ) (s : List ℕ) → length (decimal n ++ b ∷ s) ≡ length (decimal n) + suc (length s)
+field-length n b s = length-append (decimal n) (b ∷ s)
+
+size-length : (z : Size) → length (sizeText z) ≡ 8 + length (decimal (z .states)) + length (decimal (z .values)) + length (decimal (z .start .0))
+unfolding sizeText
+size-length z = simp (field-length) (omega arith)
+
+arc-length : (q v t c : ℕ) → length (lineText (arc q v t c)) ≡ 8 + length (decimal q) + length (decimal v) + length (decimal t) + length (decimal c)
+unfolding lineText
+arc-length q v t c = simp (field-length) (omega arith)
 
 two-digits : (n : ℕ) → n < 100 → length (decimal n) ≤ 2
 two-digits n h = go (decLt n 10)
@@ -51,8 +62,8 @@ arcRoom : ℕ → ℕ → ℕ
 arcRoom v k = 14 + length (decimal (k / v)) + length (decimal (k % v))
 
 final-fits : (q : ℕ) → length (lineText (final q)) ≤ finalRoom q
-unfolding finalRoom
-final-fits q = omega (arith, final-length q)
+unfolding finalRoom lineText
+final-fits q = simp (field-length) (omega arith)
 
 arc-fits : (v q u t c : ℕ) → u < v → t < 100 → c ≤ mostCost → length (lineText (arc q u t c)) ≤ arcRoom v (q * v + u)
 unfolding arcRoom

@@ -1,24 +1,12 @@
 -- What only the inner functions' contracts cite.
-use mathlib.Core.Path.{_≡_}
 use mathlib.Core.List.{List}
-use Prim.Native.Nat.{ℕ, _+_, _^_, _≤_}
-use lib.ListN.{length}
-use lib.Seq.{sets}
+use Prim.Native.Nat.{ℕ}
 use Rattle.rules.specs.Lists.{from, each}
 use Rattle.rules.specs.Meaning.{Arcs}
 use Rattle.rules.specs.declared.Answer.{Answer}
 use Rattle.sheet.specs.Lines.{lineText}
 use Rattle.sheet.specs.Sheets.{finalLine, arcLine}
 use Rattle.scribe.specs.declared.Written.{Written}
-
--- a text put at a place of a buffer, as far as the buffer has room, and the place after it
-pub record Wrote (b : List ℕ) (at : ℕ) (text : List ℕ) (b2 : List ℕ) (next : ℕ) : Type 0 where
-  pub bytes : b2 ≡ sets b at text
-  pub after : next ≡ at + length text
-
--- a place after which a text can be counted
-abbrev pub Counts : ℕ → List ℕ → Type 0
-Counts at text = at + length text ≤ 2 ^ 32
 
 -- the first n of some texts
 unfoldable pub listed : (ℕ → List ℕ) → ℕ → List ℕ

@@ -6,7 +6,6 @@ ghost use Rattle.scribe.specs.Writing.{writeLeft, writeOf};
 ghost use Rattle.scribe.specs.Inner.{refusal};
 
 mod lines;
-mod put;
 
 use crate::lines::put_sheet;
 use rules::Answer;

@@ -1,21 +1,32 @@
 // The lines of a rule set, put into a buffer, and its whole text.
 ghost use mathlib.Core.Path.{_≡_};
+ghost use mathlib.Core.List.{[], _∷_, _++_};
 ghost use Prim.Native.Nat.{_≤_, _<_};
 ghost use lib.ListN.{length};
 ghost use Rattle.rules.specs.Bounds.{mostStates, mostValues, tableSize};
 ghost use Rattle.rules.specs.Meaning.{arcsOf, rulesOf};
+ghost use Rattle.text.specs.Numbers.{decimal};
+ghost use Rattle.text.specs.Writing.{Wrote};
 ghost use Rattle.sheet.specs.Lines.{final, arc, sizeText, lineText};
 ghost use Rattle.sheet.specs.Sheets.{sheetText};
-ghost use Rattle.scribe.specs.Inner.{Wrote, Counts, listed, stateText, arcText, rowText};
-use crate::put::put_field;
-use crate::put::put_word;
+ghost use Rattle.scribe.specs.Inner.{listed, stateText, arcText, rowText};
 use kinds::State;
 use kinds::Value;
 use rules::Size;
+use text::puts::put_byte;
+use text::puts::put_number;
+use text::puts::put_word;
+
+// Puts a number and the byte that ends its field.
+pub(crate) fn put_field(buffer: &mut [u8], at: usize, n: usize, end: u8) -> usize
+    ensures { λ r. ⌜ Wrote (now (buffer .entry)) at (decimal n ++ end ∷ []) (now (buffer .exit)) r ⌝ }
+{
+    let next = put_number(buffer, at, n);
+    put_byte(buffer, next, end)
+}
 
 // Puts the size line.
 pub(crate) fn put_size(buffer: &mut [u8], at: usize, size: Size) -> usize
-    requires { ⌜ Counts at (sizeText size) ⌝ }
     ensures { λ r. ⌜ Wrote (now (buffer .entry)) at (sizeText size) (now (buffer .exit)) r ⌝ }
 {
     let states = size.states;
@@ -29,7 +40,6 @@ pub(crate) fn put_size(buffer: &mut [u8], at: usize, size: Size) -> usize
 
 // Puts a final line.
 pub(crate) fn put_final(buffer: &mut [u8], at: usize, q: State) -> usize
-    requires { ⌜ Counts at (lineText (final (q .0))) ⌝ }
     ensures { λ r. ⌜ Wrote (now (buffer .entry)) at (lineText (final (q .0))) (now (buffer .exit)) r ⌝ }
 {
     let a = put_word(buffer, at, b"final\t");
@@ -45,7 +55,6 @@ pub(crate) fn put_arc(
     target: State,
     cost: u16,
 ) -> usize
-    requires { ⌜ Counts at (lineText (arc (q .0) (v .0) (target .0) cost)) ⌝ }
     ensures { λ r. ⌜ Wrote (now (buffer .entry)) at (lineText (arc (q .0) (v .0) (target .0) cost)) (now (buffer .exit)) r ⌝ }
 {
     let a = put_word(buffer, at, b"arc\t");
@@ -57,7 +66,7 @@ pub(crate) fn put_arc(
 
 // Puts the final line of a state, if it is accepting.
 pub(crate) fn put_state(buffer: &mut [u8], at: usize, accepting: u64, q: State) -> usize
-    requires { ⌜ (q .0 < mostStates) × Counts at (stateText accepting (q .0)) ⌝ }
+    requires { ⌜ q .0 < mostStates ⌝ }
     ensures { λ r. ⌜ Wrote (now (buffer .entry)) at (stateText accepting (q .0)) (now (buffer .exit)) r ⌝ }
 {
     if (accepting >> q.0) & 1 == 1 {
@@ -68,7 +77,7 @@ pub(crate) fn put_state(buffer: &mut [u8], at: usize, accepting: u64, q: State) 
 
 // Puts the final lines.
 pub(crate) fn put_finals(buffer: &mut [u8], at: usize, accepting: u64, states: usize) -> usize
-    requires { ⌜ (states ≤ mostStates) × Counts at (listed (stateText accepting) states) ⌝ }
+    requires { ⌜ states ≤ mostStates ⌝ }
     ensures { λ r. ⌜ Wrote (now (buffer .entry)) at (listed (stateText accepting) states) (now (buffer .exit)) r ⌝ }
 {
     let mut next = at;
@@ -90,7 +99,7 @@ pub(crate) fn put_place(
     q: State,
     v: Value,
 ) -> usize
-    requires { ⌜ (size .values ≤ mostValues) × (length (now targets) ≡ tableSize) × (length (now costs) ≡ tableSize) × (q .0 < mostStates) × (v .0 < size .values) × Counts at (arcText (arcsOf (size .states) (size .values) (now targets) (now costs)) (q .0) (v .0)) ⌝ }
+    requires { ⌜ (size .values ≤ mostValues) × (length (now targets) ≡ tableSize) × (length (now costs) ≡ tableSize) × (q .0 < mostStates) × (v .0 < size .values) ⌝ }
     ensures { λ r. ⌜ Wrote (now (buffer .entry)) at (arcText (arcsOf (size .states) (size .values) (now (targets .entry)) (now (costs .entry))) (q .0) (v .0)) (now (buffer .exit)) r ⌝ }
 {
     let states = size.states;
@@ -112,7 +121,7 @@ pub(crate) fn put_row(
     costs: &[u16],
     q: State,
 ) -> usize
-    requires { ⌜ (size .values ≤ mostValues) × (length (now targets) ≡ tableSize) × (length (now costs) ≡ tableSize) × (q .0 < mostStates) × Counts at (rowText (arcsOf (size .states) (size .values) (now targets) (now costs)) (q .0)) ⌝ }
+    requires { ⌜ (size .values ≤ mostValues) × (length (now targets) ≡ tableSize) × (length (now costs) ≡ tableSize) × (q .0 < mostStates) ⌝ }
     ensures { λ r. ⌜ Wrote (now (buffer .entry)) at (rowText (arcsOf (size .states) (size .values) (now (targets .entry)) (now (costs .entry))) (q .0)) (now (buffer .exit)) r ⌝ }
 {
     let values = size.values;
@@ -133,7 +142,7 @@ pub(crate) fn put_arcs(
     targets: &[u8],
     costs: &[u16],
 ) -> usize
-    requires { ⌜ (size .states ≤ mostStates) × (size .values ≤ mostValues) × (length (now targets) ≡ tableSize) × (length (now costs) ≡ tableSize) × Counts at (listed (rowText (arcsOf (size .states) (size .values) (now targets) (now costs))) (size .states)) ⌝ }
+    requires { ⌜ (size .states ≤ mostStates) × (size .values ≤ mostValues) × (length (now targets) ≡ tableSize) × (length (now costs) ≡ tableSize) ⌝ }
     ensures { λ r. ⌜ Wrote (now (buffer .entry)) at (listed (rowText (arcsOf (size .states) (size .values) (now (targets .entry)) (now (costs .entry)))) (size .states)) (now (buffer .exit)) r ⌝ }
 {
     let states = size.states;
@@ -154,7 +163,7 @@ pub(crate) fn put_sheet(
     costs: &[u16],
     accepting: u64,
 ) -> usize
-    requires { ⌜ (size .states ≤ mostStates) × (size .values ≤ mostValues) × (length (now targets) ≡ tableSize) × (length (now costs) ≡ tableSize) × Counts 0 (sheetText (rulesOf (size .states) (size .values) (now targets) (now costs) accepting) (size .start .0)) ⌝ }
+    requires { ⌜ (size .states ≤ mostStates) × (size .values ≤ mostValues) × (length (now targets) ≡ tableSize) × (length (now costs) ≡ tableSize) ⌝ }
     ensures { λ r. ⌜ Wrote (now (buffer .entry)) 0 (sheetText (rulesOf (size .states) (size .values) (now (targets .entry)) (now (costs .entry)) accepting) (size .start .0)) (now (buffer .exit)) r ⌝ }
 {
     let a = put_size(buffer, 0, size);

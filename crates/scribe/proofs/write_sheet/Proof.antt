@@ -1,10 +1,7 @@
 use native.Mathlib.Omega.{arith}
-use mathlib.Core.Path.{sym, _∙_, ap}
-use lib.ListN.{length}
-use Rattle.rules.specs.Meaning.{rulesOf}
-use Rattle.rules.proofs.Checks.{test-failed, test-passed, size-of, long-tables, rules-tables}
+use Rattle.rules.proofs.Checks.{test-failed, test-passed, size-of, long-tables}
 use Rattle.sheet.proofs.Outcomes.{no-room}
-use Rattle.scribe.proofs.Outcomes.{left-size, left-short, left-tables, sheet-counts, left-buffer, left-done}
+use Rattle.scribe.proofs.Outcomes.{left-size, left-short, left-tables, left-buffer, left-done}
 use borrow.Author.Needs.{needs}
 use Rattle.scribe.proofs.write_sheet.Statement.{statement}
 use Rattle.scribe.proofs.write_sheet.Tie as tie
@@ -16,7 +13,7 @@ refused-requires : tie.Need-refused-requires
 refused-requires c κs = search needs
 
 returns : tie.Need-returns
-returns c = left-size (rulesOf (c .before .before .before .before .before .before .args .size .states) (c .before .before .before .before .before .before .args .size .values) (c .before .before .before .before .before .before .args .targets .now) (c .before .before .before .before .before .before .args .costs .now) (c .before .before .before .before .before .before .args .accepting)) (c .before .before .before .before .before .before .args .size .start .0) (c .before .before .before .before .before .before .args .buffer .now) _ (c .refused .ensures) (test-failed (c .before .before .size-right .ensures) (c .before .if1 .taken))
+returns c = left-size _ _ _ (c .refused .ensures) (test-failed (c .before .before .size-right .ensures) (c .before .if1 .taken))
 
 tables-long-requires : tie.Need-tables-long-requires
 tables-long-requires c κs = search needs
@@ -25,7 +22,7 @@ refused-requires-2 : tie.Need-refused-requires-2
 refused-requires-2 c κs = search needs
 
 returns-2 : tie.Need-returns-2
-returns-2 c = left-short (rulesOf (c .before .before .before .before .before .before .before .before .args .size .states) (c .before .before .before .before .before .before .before .before .args .size .values) (c .before .before .before .before .before .before .before .before .args .targets .now) (c .before .before .before .before .before .before .before .before .args .costs .now) (c .before .before .before .before .before .before .before .before .args .accepting)) (c .before .before .before .before .before .before .before .before .args .size .start .0) (c .before .before .before .before .before .before .before .before .args .buffer .now) (test-passed (c .before .before .before .before .size-right .ensures) (c .before .before .before .if1 .left)) _ (c .refused2 .ensures) (test-failed (c .before .before .tables-long .ensures) (c .before .if2 .taken))
+returns-2 c = left-short _ _ _ (c .refused2 .ensures) (test-passed (c .before .before .before .before .size-right .ensures) (c .before .before .before .if1 .left)) (test-failed (c .before .before .tables-long .ensures) (c .before .if2 .taken))
 
 rules-right-requires : tie.Need-rules-right-requires
 rules-right-requires c κs = search needs
@@ -34,7 +31,7 @@ refused-requires-3 : tie.Need-refused-requires-3
 refused-requires-3 c κs = search needs
 
 returns-3 : tie.Need-returns-3
-returns-3 c = left-tables (rulesOf (c .before .before .before .before .before .before .before .before .before .before .args .size .states) (c .before .before .before .before .before .before .before .before .before .before .args .size .values) (c .before .before .before .before .before .before .before .before .before .before .args .targets .now) (c .before .before .before .before .before .before .before .before .before .before .args .costs .now) (c .before .before .before .before .before .before .before .before .before .before .args .accepting)) (c .before .before .before .before .before .before .before .before .before .before .args .size .start .0) (c .before .before .before .before .before .before .before .before .before .before .args .buffer .now) (test-passed (c .before .before .before .before .before .before .size-right .ensures) (c .before .before .before .before .before .if1 .left)) (test-passed (c .before .before .before .before .tables-long .ensures) (c .before .before .before .if2 .left)) _ (c .refused3 .ensures) (sym (rules-tables (c .before .before .before .before .before .before .before .before .before .before .args .size .states) (c .before .before .before .before .before .before .before .before .before .before .args .size .values) (c .before .before .before .before .before .before .before .before .before .before .args .size .start .0) (c .before .before .before .before .before .before .before .before .before .before .args .targets .now) (c .before .before .before .before .before .before .before .before .before .before .args .costs .now) (c .before .before .before .before .before .before .before .before .before .before .args .accepting) (test-passed (c .before .before .before .before .before .before .size-right .ensures) (c .before .before .before .before .before .if1 .left)) (test-passed (c .before .before .before .before .tables-long .ensures) (c .before .before .before .if2 .left))) ∙ test-failed (c .before .before .rules-right .ensures) (c .before .if3 .taken))
+returns-3 c = left-tables _ _ _ (c .refused3 .ensures) (test-passed (c .before .before .before .before .before .before .size-right .ensures) (c .before .before .before .before .before .if1 .left)) (test-passed (c .before .before .before .before .tables-long .ensures) (c .before .before .before .if2 .left)) (test-failed (c .before .before .rules-right .ensures) (c .before .if3 .taken))
 
 slice-relend-prefix-put-sheet : tie.Need-slice-relend-prefix-put-sheet
 slice-relend-prefix-put-sheet c = search needs
@@ -43,7 +40,7 @@ slice-aggregate-put-sheet : tie.Need-slice-aggregate-put-sheet
 slice-aggregate-put-sheet c = search needs
 
 put-sheet-requires : tie.Need-put-sheet-requires
-put-sheet-requires c κs = (size-of _ _ _ (test-passed (c .before .before .before .before .before .before .size-right .ensures) (c .before .before .before .before .before .if1 .left)) .few-states, size-of _ _ _ (test-passed (c .before .before .before .before .before .before .size-right .ensures) (c .before .before .before .before .before .if1 .left)) .few-values, long-tables _ _ (test-passed (c .before .before .before .before .tables-long .ensures) (c .before .before .before .if2 .left)) .0, long-tables _ _ (test-passed (c .before .before .before .before .tables-long .ensures) (c .before .before .before .if2 .left)) .1, omega (arith, sheet-counts (rulesOf (c .before .before .before .before .before .before .before .before .before .before .args .size .states) (c .before .before .before .before .before .before .before .before .before .before .args .size .values) (c .before .before .before .before .before .before .before .before .before .before .args .targets .now) (c .before .before .before .before .before .before .before .before .before .before .args .costs .now) (c .before .before .before .before .before .before .before .before .before .before .args .accepting)) (c .before .before .before .before .before .before .before .before .before .before .args .size .start .0) (c .before .before .before .before .before .before .before .before .before .before .args .buffer .now) (test-passed (c .before .before .before .before .before .before .size-right .ensures) (c .before .before .before .before .before .if1 .left)) (test-passed (c .before .before .before .before .tables-long .ensures) (c .before .before .before .if2 .left)) (sym (rules-tables (c .before .before .before .before .before .before .before .before .before .before .args .size .states) (c .before .before .before .before .before .before .before .before .before .before .args .size .values) (c .before .before .before .before .before .before .before .before .before .before .args .size .start .0) (c .before .before .before .before .before .before .before .before .before .before .args .targets .now) (c .before .before .before .before .before .before .before .before .before .before .args .costs .now) (c .before .before .before .before .before .before .before .before .before .before .args .accepting) (test-passed (c .before .before .before .before .before .before .size-right .ensures) (c .before .before .before .before .before .if1 .left)) (test-passed (c .before .before .before .before .tables-long .ensures) (c .before .before .before .if2 .left))) ∙ test-passed (c .before .before .rules-right .ensures) (c .before .if3 .left))))
+put-sheet-requires c κs = (size-of _ _ _ (test-passed (c .before .before .before .before .before .before .size-right .ensures) (c .before .before .before .before .before .if1 .left)) .few-states, size-of _ _ _ (test-passed (c .before .before .before .before .before .before .size-right .ensures) (c .before .before .before .before .before .if1 .left)) .few-values, long-tables _ _ (test-passed (c .before .before .before .before .tables-long .ensures) (c .before .before .before .if2 .left)) .0, long-tables _ _ (test-passed (c .before .before .before .before .tables-long .ensures) (c .before .before .before .if2 .left)) .1)
 
 refused-requires-4 : tie.Need-refused-requires-4
 refused-requires-4 c κs = search needs
@@ -52,16 +49,16 @@ same-length : tie.Need-same-length
 same-length c = search needs
 
 returns-4 : tie.Need-returns-4
-returns-4 c = left-buffer (rulesOf (c .before .before .before .before .before .before .before .before .before .before .before .before .before .before .before .args .size .states) (c .before .before .before .before .before .before .before .before .before .before .before .before .before .before .before .args .size .values) (c .before .before .before .before .before .before .before .before .before .before .before .before .before .before .before .args .targets .now) (c .before .before .before .before .before .before .before .before .before .before .before .before .before .before .before .args .costs .now) (c .before .before .before .before .before .before .before .before .before .before .before .before .before .before .before .args .accepting)) (c .before .before .before .before .before .before .before .before .before .before .before .before .before .before .before .args .size .start .0) (c .before .before .before .before .before .before .before .before .before .before .before .before .before .before .before .args .buffer .now) (test-passed (c .before .before .before .before .before .before .before .before .before .before .before .size-right .ensures) (c .before .before .before .before .before .before .before .before .before .before .if1 .left)) (test-passed (c .before .before .before .before .before .before .before .before .before .tables-long .ensures) (c .before .before .before .before .before .before .before .before .if2 .left)) (sym (rules-tables (c .before .before .before .before .before .before .before .before .before .before .before .before .before .before .before .args .size .states) (c .before .before .before .before .before .before .before .before .before .before .before .before .before .before .before .args .size .values) (c .before .before .before .before .before .before .before .before .before .before .before .before .before .before .before .args .size .start .0) (c .before .before .before .before .before .before .before .before .before .before .before .before .before .before .before .args .targets .now) (c .before .before .before .before .before .before .before .before .before .before .before .before .before .before .before .args .costs .now) (c .before .before .before .before .before .before .before .before .before .before .before .before .before .before .before .args .accepting) (test-passed (c .before .before .before .before .before .before .before .before .before .before .before .size-right .ensures) (c .before .before .before .before .before .before .before .before .before .before .if1 .left)) (test-passed (c .before .before .before .before .before .before .before .before .before .tables-long .ensures) (c .before .before .before .before .before .before .before .before .if2 .left))) ∙ test-passed (c .before .before .before .before .before .before .before .rules-right .ensures) (c .before .before .before .before .before .before .if3 .left)) _ _ (c .refused4 .ensures) (no-room (c .before .before .before .before .put-sheet .last .0) (c .before .before .before .before .before .before .before .before .before .before .before .before .before .before .before .args .buffer .now) (c .before .before .before .before .put-sheet .kept .0)) (omega (arith, c .before .before .before .before .put-sheet .ensures .after, c .before .if4 .taken, ap length (no-room (c .before .before .before .before .put-sheet .last .0) (c .before .before .before .before .before .before .before .before .before .before .before .before .before .before .before .args .buffer .now) (c .before .before .before .before .put-sheet .kept .0))))
+returns-4 c = left-buffer _ _ _ (test-passed (c .before .before .before .before .before .before .before .rules-right .ensures) (c .before .before .before .before .before .before .if3 .left)) (c .refused4 .ensures) (c .before .before .before .before .put-sheet .ensures) (no-room (c .before .before .before .before .put-sheet .last .0) _ (c .before .before .before .before .put-sheet .kept .0)) (c .before .if4 .taken)
 
 put-sheet-requires-2 : tie.Need-put-sheet-requires-2
-put-sheet-requires-2 c κs = (size-of _ _ _ (test-passed (c .before .before .before .before .before .before .before .before .before .before .before .size-right .ensures) (c .before .before .before .before .before .before .before .before .before .before .if1 .left)) .few-states, size-of _ _ _ (test-passed (c .before .before .before .before .before .before .before .before .before .before .before .size-right .ensures) (c .before .before .before .before .before .before .before .before .before .before .if1 .left)) .few-values, long-tables _ _ (test-passed (c .before .before .before .before .before .before .before .before .before .tables-long .ensures) (c .before .before .before .before .before .before .before .before .if2 .left)) .0, long-tables _ _ (test-passed (c .before .before .before .before .before .before .before .before .before .tables-long .ensures) (c .before .before .before .before .before .before .before .before .if2 .left)) .1, omega (arith, sheet-counts (rulesOf (c .before .before .before .before .before .before .before .before .before .before .before .before .before .before .before .args .size .states) (c .before .before .before .before .before .before .before .before .before .before .before .before .before .before .before .args .size .values) (c .before .before .before .before .before .before .before .before .before .before .before .before .before .before .before .args .targets .now) (c .before .before .before .before .before .before .before .before .before .before .before .before .before .before .before .args .costs .now) (c .before .before .before .before .before .before .before .before .before .before .before .before .before .before .before .args .accepting)) (c .before .before .before .before .before .before .before .before .before .before .before .before .before .before .before .args .size .start .0) (c .before .before .before .before .before .before .before .before .before .before .before .before .before .before .before .args .buffer .now) (test-passed (c .before .before .before .before .before .before .before .before .before .before .before .size-right .ensures) (c .before .before .before .before .before .before .before .before .before .before .if1 .left)) (test-passed (c .before .before .before .before .before .before .before .before .before .tables-long .ensures) (c .before .before .before .before .before .before .before .before .if2 .left)) (sym (rules-tables (c .before .before .before .before .before .before .before .before .before .before .before .before .before .before .before .args .size .states) (c .before .before .before .before .before .before .before .before .before .before .before .before .before .before .before .args .size .values) (c .before .before .before .before .before .before .before .before .before .before .before .before .before .before .before .args .size .start .0) (c .before .before .before .before .before .before .before .before .before .before .before .before .before .before .before .args .targets .now) (c .before .before .before .before .before .before .before .before .before .before .before .before .before .before .before .args .costs .now) (c .before .before .before .before .before .before .before .before .before .before .before .before .before .before .before .args .accepting) (test-passed (c .before .before .before .before .before .before .before .before .before .before .before .size-right .ensures) (c .before .before .before .before .before .before .before .before .before .before .if1 .left)) (test-passed (c .before .before .before .before .before .before .before .before .before .tables-long .ensures) (c .before .before .before .before .before .before .before .before .if2 .left))) ∙ test-passed (c .before .before .before .before .before .before .before .rules-right .ensures) (c .before .before .before .before .before .before .if3 .left))))
+put-sheet-requires-2 c κs = (size-of _ _ _ (test-passed (c .before .before .before .before .before .before .before .before .before .before .before .size-right .ensures) (c .before .before .before .before .before .before .before .before .before .before .if1 .left)) .few-states, size-of _ _ _ (test-passed (c .before .before .before .before .before .before .before .before .before .before .before .size-right .ensures) (c .before .before .before .before .before .before .before .before .before .before .if1 .left)) .few-values, long-tables _ _ (test-passed (c .before .before .before .before .before .before .before .before .before .tables-long .ensures) (c .before .before .before .before .before .before .before .before .if2 .left)) .0, long-tables _ _ (test-passed (c .before .before .before .before .before .before .before .before .before .tables-long .ensures) (c .before .before .before .before .before .before .before .before .if2 .left)) .1)
 
 same-length-2 : tie.Need-same-length-2
 same-length-2 c = search needs
 
 returns-5 : tie.Need-returns-5
-returns-5 c = left-done (rulesOf (c .before .before .before .before .before .before .before .before .before .before .before .before .before .before .before .before .before .before .args .size .states) (c .before .before .before .before .before .before .before .before .before .before .before .before .before .before .before .before .before .before .args .size .values) (c .before .before .before .before .before .before .before .before .before .before .before .before .before .before .before .before .before .before .args .targets .now) (c .before .before .before .before .before .before .before .before .before .before .before .before .before .before .before .before .before .before .args .costs .now) (c .before .before .before .before .before .before .before .before .before .before .before .before .before .before .before .before .before .before .args .accepting)) (c .before .before .before .before .before .before .before .before .before .before .before .before .before .before .before .before .before .before .args .size .start .0) (c .before .before .before .before .before .before .before .before .before .before .before .before .before .before .before .before .before .before .args .buffer .now) (test-passed (c .before .before .before .before .before .before .before .before .before .before .before .before .before .before .size-right .ensures) (c .before .before .before .before .before .before .before .before .before .before .before .before .before .if1 .left)) (test-passed (c .before .before .before .before .before .before .before .before .before .before .before .before .tables-long .ensures) (c .before .before .before .before .before .before .before .before .before .before .before .if2 .left)) (sym (rules-tables (c .before .before .before .before .before .before .before .before .before .before .before .before .before .before .before .before .before .before .args .size .states) (c .before .before .before .before .before .before .before .before .before .before .before .before .before .before .before .before .before .before .args .size .values) (c .before .before .before .before .before .before .before .before .before .before .before .before .before .before .before .before .before .before .args .size .start .0) (c .before .before .before .before .before .before .before .before .before .before .before .before .before .before .before .before .before .before .args .targets .now) (c .before .before .before .before .before .before .before .before .before .before .before .before .before .before .before .before .before .before .args .costs .now) (c .before .before .before .before .before .before .before .before .before .before .before .before .before .before .before .before .before .before .args .accepting) (test-passed (c .before .before .before .before .before .before .before .before .before .before .before .before .before .before .size-right .ensures) (c .before .before .before .before .before .before .before .before .before .before .before .before .before .if1 .left)) (test-passed (c .before .before .before .before .before .before .before .before .before .before .before .before .tables-long .ensures) (c .before .before .before .before .before .before .before .before .before .before .before .if2 .left))) ∙ test-passed (c .before .before .before .before .before .before .before .before .before .before .rules-right .ensures) (c .before .before .before .before .before .before .before .before .before .if3 .left)) _ _ _ _ (c .before .before .before .before .before .before .before .put-sheet .ensures .after ∙ omega arith) (no-room (c .before .before .before .before .before .before .before .put-sheet .last .0) (c .before .before .before .before .before .before .before .before .before .before .before .before .before .before .before .before .before .before .args .buffer .now) (c .before .before .before .before .before .before .before .put-sheet .kept .0)) (omega (arith, c .before .before .before .before .before .before .before .put-sheet .ensures .after, c .before .before .before .before .if4 .left, ap length (no-room (c .before .before .before .before .before .before .before .put-sheet .last .0) (c .before .before .before .before .before .before .before .before .before .before .before .before .before .before .before .before .before .before .args .buffer .now) (c .before .before .before .before .before .before .before .put-sheet .kept .0)))) (c .before .before .put-sheet2 .ensures)
+returns-5 c = left-done _ _ _ (test-passed (c .before .before .before .before .before .before .before .before .before .before .rules-right .ensures) (c .before .before .before .before .before .before .before .before .before .if3 .left)) (omega arith) (c .before .before .before .before .before .before .before .put-sheet .ensures) (no-room (c .before .before .before .before .before .before .before .put-sheet .last .0) _ (c .before .before .before .before .before .before .before .put-sheet .kept .0)) (c .before .before .before .before .if4 .left) (c .before .before .put-sheet2 .ensures)
 
 pub write-sheet-spec : {M : Type 1} → statement M
 write-sheet-spec =

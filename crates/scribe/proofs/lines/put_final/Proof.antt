@@ -1,11 +1,6 @@
 use native.Mathlib.Omega.{arith}
-use mathlib.Core.List.{[], _∷_}
-use lib.ListN.{length-append}
-use Rattle.text.specs.Bytes.{feed}
-use Rattle.text.specs.Numbers.{decimal}
 use Rattle.sheet.specs.Lines.{lineText}
-use Rattle.scribe.proofs.Lengths.{final-length}
-use Rattle.scribe.proofs.Puts.{wrote-append}
+use Rattle.scribe.proofs.Puts.{wrote-then}
 use borrow.Author.Needs.{needs}
 use Rattle.scribe.proofs.lines.put_final.Statement.{statement}
 use Rattle.scribe.proofs.lines.put_final.Tie as tie
@@ -14,20 +9,20 @@ slice-aggregate-put-word : tie.Need-slice-aggregate-put-word
 slice-aggregate-put-word c = search needs
 
 put-word-requires : tie.Need-put-word-requires
-put-word-requires c κs = omega (arith, final-length (c .before .before .before .args .q .0))
+put-word-requires c κs = search needs
 
 cast-put-field : tie.Need-cast-put-field
 cast-put-field c = search needs
 
 put-field-requires : tie.Need-put-field-requires
-put-field-requires c κs = omega (arith, final-length (c .before .before .before .before .before .before .before .before .args .q .0), c .before .before .before .before .put-word .ensures .after, length-append (decimal (c .before .before .before .before .before .before .before .before .args .q .0)) (feed ∷ []))
+put-field-requires c κs = search needs
 
 same-length : tie.Need-same-length
 same-length c = search needs
 
 returns : tie.Need-returns
 unfolding lineText
-returns c = wrote-append _ _ _ _ _ _ _ _ (c .before .before .before .before .before .before .before .put-word .ensures) (c .before .before .put-field .ensures)
+returns c = wrote-then (omega arith) (c .before .before .before .before .before .before .before .put-word .ensures) (λ _. c .before .before .put-field .ensures)
 
 pub put-final-spec : {M : Type 1} → statement M
 put-final-spec =

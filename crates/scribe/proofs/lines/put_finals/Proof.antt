@@ -1,7 +1,9 @@
 use native.Mathlib.Omega.{arith}
 use Prim.Native.Nat.{_≤_, _-_}
-use Rattle.scribe.specs.Inner.{Wrote, listed, stateText}
-use Rattle.scribe.proofs.Puts.{wrote-length, listed-start, listed-turn, listed-counts, listed-all}
+use Rattle.text.specs.Writing.{Wrote}
+use Rattle.text.proofs.Putting.{wrote-length}
+use Rattle.scribe.specs.Inner.{listed, stateText}
+use Rattle.scribe.proofs.Puts.{listed-start, listed-turn, listed-all}
 use Rattle.scribe.proofs.lines.put_finals.Statement.{statement}
 use Rattle.scribe.proofs.lines.put_finals.Tie as tie
 
@@ -12,13 +14,13 @@ abbrev μ-loop : tie.MeasureT-loop
 μ-loop buffer₀ at accepting states next₀ q₀ buffer next q = states - q
 
 loop-holds : tie.Need-loop-holds Inv-loop μ-loop
-loop-holds c = (omega arith, listed-start _ _ _)
+loop-holds c = (omega arith, listed-start _ _ _ (omega arith))
 
 cast-loop : tie.Need-cast-loop Inv-loop μ-loop
 cast-loop c = omega arith
 
 put-state-requires : tie.Need-put-state-requires Inv-loop μ-loop
-put-state-requires c κs = (omega arith, listed-counts _ _ _ _ _ _ _ (c .before .loop-test .taken) (c .before .before .before .before .pre .1) (c .before .before .loop .inv .1))
+put-state-requires c κs = omega arith
 
 add-q : tie.Need-add-q Inv-loop μ-loop
 add-q c = omega arith
@@ -27,7 +29,7 @@ loop-less : tie.Need-loop-less Inv-loop μ-loop
 loop-less c = omega arith
 
 loop-again : tie.Need-loop-again Inv-loop μ-loop
-loop-again c = (omega arith, listed-turn _ _ _ _ _ _ _ _ (c .before .before .before .before .before .loop .inv .1) (c .before .before .put-state .ensures))
+loop-again c = (omega arith, listed-turn _ _ _ _ _ _ _ _ (omega arith) (c .before .before .before .before .before .loop .inv .1) (c .before .before .put-state .ensures))
 
 same-length : tie.Need-same-length Inv-loop μ-loop
 same-length c = wrote-length _ _ _ _ _ (c .before .loop .inv .1)

@@ -1,8 +1,10 @@
 use native.Mathlib.Omega.{arith}
 use Prim.Native.Nat.{_≤_, _-_}
 use Rattle.rules.specs.Meaning.{arcsOf}
-use Rattle.scribe.specs.Inner.{Wrote, listed, arcText, rowText}
-use Rattle.scribe.proofs.Puts.{wrote-length, listed-start, listed-turn, listed-counts, listed-all}
+use Rattle.text.specs.Writing.{Wrote}
+use Rattle.text.proofs.Putting.{wrote-length}
+use Rattle.scribe.specs.Inner.{listed, arcText, rowText}
+use Rattle.scribe.proofs.Puts.{listed-start, listed-turn, listed-all}
 use Rattle.scribe.proofs.lines.put_row.Statement.{statement}
 use Rattle.scribe.proofs.lines.put_row.Tie as tie
 
@@ -13,14 +15,14 @@ abbrev μ-loop : tie.MeasureT-loop
 μ-loop buffer₀ at size targets costs q values next₀ v₀ buffer next v = values - v
 
 loop-holds : tie.Need-loop-holds Inv-loop μ-loop
-loop-holds c = (omega arith, listed-start _ _ _)
+loop-holds c = (omega arith, listed-start _ _ _ (omega arith))
 
 cast-loop : tie.Need-cast-loop Inv-loop μ-loop
 cast-loop c = omega arith
 
 put-place-requires : tie.Need-put-place-requires Inv-loop μ-loop
 unfolding rowText
-put-place-requires c κs = (c .before .before .before .before .before .before .pre .0, c .before .before .before .before .before .before .pre .1, c .before .before .before .before .before .before .pre .2, c .before .before .before .before .before .before .pre .3, omega arith, listed-counts _ _ _ _ _ _ _ (c .before .loop-test .taken) (c .before .before .before .before .before .before .pre .4) (c .before .before .loop .inv .1))
+put-place-requires c κs = (c .before .before .before .before .before .before .pre .0, c .before .before .before .before .before .before .pre .1, c .before .before .before .before .before .before .pre .2, c .before .before .before .before .before .before .pre .3, omega arith)
 
 add-v : tie.Need-add-v Inv-loop μ-loop
 add-v c = omega arith
@@ -29,7 +31,7 @@ loop-less : tie.Need-loop-less Inv-loop μ-loop
 loop-less c = omega arith
 
 loop-again : tie.Need-loop-again Inv-loop μ-loop
-loop-again c = (omega arith, listed-turn _ _ _ _ _ _ _ _ (c .before .before .before .before .before .loop .inv .1) (c .before .before .put-place .ensures))
+loop-again c = (omega arith, listed-turn _ _ _ _ _ _ _ _ (omega arith) (c .before .before .before .before .before .loop .inv .1) (c .before .before .put-place .ensures))
 
 same-length : tie.Need-same-length Inv-loop μ-loop
 same-length c = wrote-length _ _ _ _ _ (c .before .loop .inv .1)
