@@ -10,9 +10,9 @@ mod answers;
 mod whole;
 
 use kinds::Value;
-use rooms::rows;
 use rules::Answer;
 use rules::Size;
+use rules::numbers::clear;
 
 // What a filter answers.
 pub struct Filtered {
@@ -44,11 +44,11 @@ pub fn filter(
         return answers::refused(Answer::WrongLength);
     }
     if !rules::rules_right(size, targets, costs, accepting) {
-        rows::clear(work);
+        clear(work);
         return answers::refused(Answer::WrongTables);
     }
     if !rules::masks_right(size.values, masks) {
-        rows::clear(work);
+        clear(work);
         return answers::refused(Answer::WrongMask);
     }
     let start = size.start;
@@ -94,15 +94,15 @@ pub fn first_roster(
         return Answer::WrongLength;
     }
     if !rules::rules_right(size, targets, costs, accepting) {
-        rows::clear(work);
+        clear(work);
         return Answer::WrongTables;
     }
     if !rules::masks_right(size.values, masks) {
-        rows::clear(work);
+        clear(work);
         return Answer::WrongMask;
     }
     if !answers::in_range(places, size.values, place, Value(value.0)) {
-        rows::clear(work);
+        clear(work);
         return Answer::OutOfRange;
     }
     let start = size.start;

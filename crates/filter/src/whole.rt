@@ -15,6 +15,7 @@ use rooms::backward;
 use rooms::rows;
 use rooms::turn;
 use rules::bounds;
+use rules::numbers::clear;
 
 // As many numbers as a target byte can name.
 pub(crate) const BYTES: usize = 256;
@@ -70,7 +71,7 @@ pub(crate) fn filter_in(
         hints,
         kept,
     );
-    rows::clear(work);
+    clear(work);
     least
 }
 
@@ -157,7 +158,7 @@ pub(crate) fn first_in(
         next,
         roster,
     );
-    rows::clear(work);
+    clear(work);
     found
 }
 

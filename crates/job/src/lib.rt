@@ -15,6 +15,7 @@ mod take;
 use crate::cut::cut_at;
 use crate::plan::plan_apart;
 use crate::print::put_line;
+use rules::bounds;
 use sheet::read_sheet;
 use text::puts::put_word;
 
@@ -56,7 +57,7 @@ pub fn job(input: &[u8], output: &mut [u8]) -> usize
     if LONGEST_INPUT < input.len() {
         return put_word(output, 0, b"long\n");
     }
-    let mut targets = [0u8; 1024];
-    let mut costs = [0u16; 1024];
+    let mut targets = [0u8; bounds::TABLE_SIZE];
+    let mut costs = [0u16; bounds::TABLE_SIZE];
     job_in(input, &mut targets, &mut costs, output)
 }

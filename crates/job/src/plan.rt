@@ -11,6 +11,7 @@ ghost use Rattle.text.specs.Writing.{Wrote};
 ghost use Rattle.job.specs.Input.{mostDays, mostLines, readDecisions, readJob};
 ghost use Rattle.job.specs.Job.{doneText};
 use crate::asks::Days;
+use crate::asks::MOST_DAYS;
 use crate::asks::days_line;
 use crate::asks::highest;
 use crate::print::put_line;
@@ -23,6 +24,9 @@ use text::lines::line_end;
 
 // No running cost passes this.
 const TOP: u32 = (bounds::MOST_PLACES as u32) * (bounds::MOST_COST as u32);
+
+// As long as the work table of so many days is.
+const WORK_SIZE: usize = (MOST_DAYS + 1) * bounds::MOST_STATES;
 
 // The lines behind the days line, for masks and limits of that many days, all full and all at the top.
 pub(crate) fn carry_out(
@@ -117,10 +121,10 @@ pub(crate) fn plan_apart(
     ensures { λ r. ⌜ Wrote (now (output .entry)) 0 (doneText (rulesOf (size .states) (size .values) (now (targets .entry)) (now (costs .entry)) accepting) (size .start .0) (readJob (size .values) (lines (now (text .entry))))) (now (output .exit)) r ⌝ }
 {
     let full = highest(size.values) as u16;
-    let mut masks = [full; 128];
-    let mut limits = [TOP; 128];
-    let mut kept = [0u16; 128];
-    let mut work = [0u32; 8256];
+    let mut masks = [full; MOST_DAYS];
+    let mut limits = [TOP; MOST_DAYS];
+    let mut kept = [0u16; MOST_DAYS];
+    let mut work = [0u32; WORK_SIZE];
     plan(
         text,
         size,

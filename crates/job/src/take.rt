@@ -1,6 +1,6 @@
 // The lines of a job, taken one by one into the masks and limits.
 ghost use mathlib.Core.Path.{_≡_};
-ghost use Prim.Native.Nat.{_≤_, min};
+ghost use Prim.Native.Nat.{_≤_};
 ghost use lib.ListN.{length, drop};
 ghost use Rattle.rules.specs.Bounds.{mostValues};
 ghost use Rattle.rules.specs.Meaning.{places, decides};
@@ -9,10 +9,14 @@ ghost use Rattle.job.specs.Input.{mostDays, mostLines, readDecisions};
 ghost use Rattle.job.specs.Inner.{asks, AskedIn, Took};
 use crate::asks::Asked;
 use crate::asks::asked_of;
+use rules::numbers::lesser;
 use text::lines::line_end;
 
-// The number of the first line that there is no room for: behind the days line, 512 decisions are taken.
-pub(crate) const LINES_END: usize = 514;
+// As many decisions as a job may have.
+pub(crate) const MOST_LINES: usize = 512;
+
+// The number of the first line that there is no room for: the decisions stand behind the days line.
+pub(crate) const LINES_END: usize = MOST_LINES + 2;
 
 // What comes of the lines behind the days line: all are taken, or one is wrong.
 pub(crate) enum Taken {
@@ -34,13 +38,6 @@ pub(crate) fn take_one(asked: Asked, masks: &mut [u16], limits: &mut [u32])
         }
         Asked::Wrong(_) => {}
     }
-}
-
-// The lesser of two numbers.
-pub(crate) fn lesser(a: u32, b: u32) -> u32
-    ensures { λ r. ⌜ r ≡ min a b ⌝ }
-{
-    if a < b { a } else { b }
 }
 
 // Takes the lines from `from` on, up to the first wrong one.

@@ -4,11 +4,11 @@ ghost use Rattle.rules.specs.Answers.{numberOf};
 ghost use Rattle.rules.specs.Checks.{handed};
 ghost use Rattle.machine.specs.Calls.{readiness};
 ghost use Rattle.machine.specs.Inner.{lentOf};
-use crate::lists;
 use crate::room;
 use rules::Answer;
 use rules::Size;
 use rules::bounds;
+use rules::numbers::clear;
 
 // Done, or the refusal, with a memory of that length.
 pub(crate) fn lent_right(
@@ -35,7 +35,7 @@ pub(crate) fn lent_right(
         return Answer::WrongLength;
     }
     if !rules::rules_right(size, targets, costs, accepting) {
-        lists::clear(work);
+        clear(work);
         return Answer::WrongTables;
     }
     Answer::Done

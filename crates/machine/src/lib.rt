@@ -15,6 +15,7 @@ mod shown;
 
 use rules::Answer;
 use rules::Size;
+use rules::numbers::clear;
 
 // Whether the memory is ready for a call: Done, or the refusal by 1, 2, 3 or 12.
 pub fn ready(
@@ -34,7 +35,7 @@ pub fn ready(
     }
     let front = places + room::SHOWN;
     if !held::held_right(places, size, &memory[front..]) {
-        lists::clear(work);
+        clear(work);
         return Answer::WrongMemory;
     }
     if !refresh::shown_right(places, size, targets, costs, accepting, memory, work) {
@@ -61,7 +62,7 @@ pub fn settle(
     }
     let front = places + room::SHOWN;
     if !held::held_right(places, size, &memory[front..]) {
-        lists::clear(work);
+        clear(work);
         return Answer::WrongMemory;
     }
     refresh::show_held(places, size, targets, costs, accepting, memory, work)

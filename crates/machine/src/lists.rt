@@ -1,8 +1,7 @@
-// Lists of numbers: tested, cleared and copied whole.
+// Lists of numbers: tested and copied whole.
 ghost use mathlib.Core.Path.{_≡_};
 ghost use mathlib.Core.Bool.{true};
 ghost use lib.ListN.{length};
-ghost use Rattle.rules.specs.Answers.{zeros};
 ghost use Rattle.machine.specs.Memory.{allBelow};
 ghost use Rattle.machine.specs.Calls.{copied};
 
@@ -18,17 +17,6 @@ pub(crate) fn all_below(s: &[u32], bound: u32) -> bool
         i += 1;
     }
     true
-}
-
-// Every number becomes 0.
-pub fn clear(s: &mut [u32])
-    ensures { λ _. ⌜ now (s .exit) ≡ zeros (now (s .entry)) ⌝ }
-{
-    let mut i: usize = 0;
-    while i < s.len() {
-        s[i] = 0;
-        i += 1;
-    }
 }
 
 // One list over another of the same length.

@@ -11,17 +11,7 @@ ghost use Rattle.machine.specs.Memory.{entryOf, entriesAt, openingAt, al
 ghost use Rattle.machine.specs.Inner.{RowSafe, RowsSafe};
 use crate::lists;
 use crate::room;
-
-// The smaller of two limits.
-fn lesser(a: u32, b: u32) -> u32
-    ensures { λ r. ⌜ r ≡ min a b ⌝ }
-{
-    if a < b {
-        return a;
-    }
-    b
-}
-
+use rules::numbers::lesser;
 // One entry applied: the meet of both masks, or the smaller of both limits.
 pub(crate) fn apply_row(kind: u32, place: usize, amount: u32, masks: &mut [u16], limits: &mut [u32])
     requires { ⌜ RowSafe kind place amount (length (now masks)) (length (now limits)) ⌝ }

@@ -14,6 +14,7 @@ use kinds::Value;
 use rooms::backward::TOP;
 use rooms::rows;
 use rules::bounds;
+use rules::numbers::lesser;
 
 // The least costs, lowered by the arcs on one value.
 pub(crate) fn push(states: usize, targets: &[u8], costs: &[u16], front: &[u32], onward: &mut [u32])
@@ -24,7 +25,7 @@ pub(crate) fn push(states: usize, targets: &[u8], costs: &[u16], front: &[u32], 
     while q < states {
         let to = targets[q] as usize;
         let spent = front[q] + (costs[q] as u32);
-        onward[to] = rows::lesser(spent, onward[to]);
+        onward[to] = lesser(spent, onward[to]);
         q += 1;
     }
 }
@@ -119,7 +120,7 @@ pub(crate) fn cheapest(states: usize, front: &[u32]) -> u32
     let mut least = TOP + 1;
     let mut q: usize = 0;
     while q < states {
-        least = rows::lesser(front[q], least);
+        least = lesser(front[q], least);
         q += 1;
     }
     least

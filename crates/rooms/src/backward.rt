@@ -10,6 +10,7 @@ use crate::rows;
 use kinds::Mask;
 use kinds::Value;
 use rules::bounds;
+use rules::numbers::lesser;
 
 // No running cost passes this.
 pub const TOP: u32 = (bounds::MOST_PLACES as u32) * (bounds::MOST_COST as u32);
@@ -54,7 +55,7 @@ pub(crate) fn cut(states: usize, cap: u32, row: &mut [u32])
 {
     let mut q: usize = 0;
     while q < states {
-        row[q] = rows::lesser(cap, row[q]);
+        row[q] = lesser(cap, row[q]);
         q += 1;
     }
 }
@@ -94,7 +95,7 @@ pub(crate) fn cap_at(limits: &[u32], i: usize) -> u32
     if i == 0 {
         return TOP + 1;
     }
-    rows::lesser(limits[i - 1], TOP) + 1
+    lesser(limits[i - 1], TOP) + 1
 }
 
 // The row of layer i, laid in the work table and loaded by itself.

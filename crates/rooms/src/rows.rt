@@ -1,16 +1,8 @@
 // Rows of numbers, one for each state.
 ghost use mathlib.Core.Path.{_≡_};
-ghost use Prim.Native.Nat.{_-_, _≤_, _<_, min, max};
+ghost use Prim.Native.Nat.{_-_, _≤_, max};
 ghost use lib.ListN.{length, getD};
-ghost use Rattle.rules.specs.Answers.{zeros};
 ghost use Rattle.rooms.specs.Tables.{Filled};
-
-// The lesser of two numbers.
-pub fn lesser(a: u32, b: u32) -> u32
-    ensures { λ r. ⌜ r ≡ min a b ⌝ }
-{
-    if a < b { a } else { b }
-}
 
 // The greater of two numbers.
 pub(crate) fn greater(a: u32, b: u32) -> u32
@@ -48,11 +40,4 @@ pub fn copy(count: usize, from: &[u32], row: &mut [u32])
         row[k] = from[k];
         k += 1;
     }
-}
-
-// The work table, all zeros.
-pub fn clear(work: &mut [u32])
-    ensures { λ _. ⌜ now (work .exit) ≡ zeros (now (work .entry)) ⌝ }
-{
-    blank(work.len(), 0, work);
 }

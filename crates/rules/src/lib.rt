@@ -7,6 +7,7 @@ ghost use Rattle.rules.specs.Report.{outcome, reportOf};
 mod arcs;
 pub mod bounds;
 mod choices;
+pub mod numbers;
 mod steps;
 
 use kinds::State;

@@ -5,9 +5,9 @@ ghost use lib.ListN.{length, getD};
 ghost use Rattle.machine.specs.Room.{mostEntries, rowsSize};
 ghost use Rattle.machine.specs.Memory.{countOf, rowsOf};
 ghost use Rattle.session.specs.Inner.{Counted, pushed, markAt, undoneAt};
-use machine::lists;
 use machine::room;
 use machine::rows;
+use rules::numbers::clear;
 
 // Writes one more entry behind the others, and counts it.
 pub(crate) fn push(held: &mut [u32], kind: u32, place: u32, amount: u32)
@@ -59,7 +59,7 @@ pub(crate) fn undo(held: &mut [u32], mark: usize)
     let marks = held[room::MARKS] - 1;
     let start = room::ROWS + (mark - 1) * room::ROW_SIZE;
     let end = room::ROWS + count * room::ROW_SIZE;
-    lists::clear(&mut held[start..end]);
+    clear(&mut held[start..end]);
     held[room::DECISIONS] = (mark - 1) as u32 - marks;
     held[room::MARKS] = marks;
 }

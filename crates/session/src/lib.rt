@@ -11,10 +11,10 @@ mod asks;
 mod entries;
 mod opening;
 
-use machine::lists;
 use machine::room;
 use rules::Answer;
 use rules::Size;
+use rules::numbers::clear;
 
 // Opens a session in memory of any content.
 pub fn open(
@@ -45,11 +45,11 @@ pub fn open(
         return Answer::WrongLength;
     }
     if !rules::rules_right(size, targets, costs, accepting) {
-        lists::clear(work);
+        clear(work);
         return Answer::WrongTables;
     }
     if !rules::masks_right(size.values, masks) {
-        lists::clear(work);
+        clear(work);
         return Answer::WrongMask;
     }
     let front = places + room::SHOWN;

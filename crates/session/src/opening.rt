@@ -12,6 +12,7 @@ use machine::lists;
 use machine::room;
 use rules::Size;
 use rules::bounds;
+use rules::numbers::clear;
 
 // Whether all that an opening is lent has its length, with a memory and a work table of so many numbers.
 pub(crate) fn lengths_right(
@@ -56,7 +57,7 @@ pub(crate) fn begin(places: usize, size: Size, masks: &[u16], limits: &[u32], he
     ensures { λ _. ⌜ now (held .exit) ≡ heldOf places (size .states) (size .values) (size .start .0) (opening (now (masks .entry)) (now (limits .entry))) [] ⌝ }
 {
     let start = size.start;
-    lists::clear(held);
+    clear(held);
     store(places, masks, limits, &mut held[room::OPENING..]);
     held[0] = places as u32;
     held[1] = size.states as u32;

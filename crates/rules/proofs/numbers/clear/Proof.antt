@@ -5,8 +5,8 @@ use Prim.Native.Nat.{ℕ, _≤_, _-_}
 use lib.ListN.{length, drop, set, replicate, length-set, drop-of-length-le}
 use borrow.Author.Fill.{fill-none, fill-more}
 use borrow.Author.Needs.{needs}
-use Rattle.machine.proofs.lists.clear.Statement.{statement}
-use Rattle.machine.proofs.lists.clear.Tie as tie
+use Rattle.rules.proofs.numbers.clear.Statement.{statement}
+use Rattle.rules.proofs.numbers.clear.Tie as tie
 
 abbrev Inv-loop : tie.InvT-loop
 Inv-loop s₀ i₀ s i = (i ≤ length s₀) × (length s ≡ length s₀) × (s ≡ replicate i 0 ++ drop i s₀)
