@@ -91,14 +91,18 @@ unfolding readDecisions
 no-lines n v k zero = refl
 no-lines n v k (suc room) = refl
 
+-- the number of the first line that there is no room for, behind the days line
+abbrev linesEnd : ℕ
+linesEnd = mostLines + 2
+
 -- the lines before `at` are taken, and the line at `at` has that number
 pub record Going (text : List ℕ) (v : ℕ) (ms ls : List ℕ) (j : Job) (ms2 ls2 : List ℕ) (at number : ℕ) : Type 0 where
   pub inside : at ≤ length text
-  pub few : number ≤ 514
+  pub few : number ≤ linesEnd
   pub same-masks : length ms2 ≡ length ms
   pub same-limits : length ls2 ≡ length ls
   pub so-far : List Decision
-  pub job : j ≡ withDecisions so-far (readDecisions (length ms) v number (514 - number) (lines (drop at text)))
+  pub job : j ≡ withDecisions so-far (readDecisions (length ms) v number (linesEnd - number) (lines (drop at text)))
   pub standing : places ms2 ls2 ≡ decides (places ms ls) so-far
 
 pub going-start : (text : List ℕ) (v : ℕ) (ms ls : List ℕ) (at : ℕ) → at ≤ length text → Going text v ms ls (readDecisions (length ms) v 2 mostLines (lines (drop at text))) ms ls at 2
@@ -107,26 +111,26 @@ going-start text v ms ls at h =
     record { inside = h; few = omega arith; same-masks = refl; same-limits = refl; so-far = []; job = with-none _; standing = refl }
 
 module _ (text : List ℕ) (v : ℕ) (ms ls : List ℕ) (j : Job) (ms2 ls2 : List ℕ) (at number : ℕ) (g : Going text v ms ls j ms2 ls2 at number) where
-  pub going-full : at < length text → number ≡ 514 → j ≡ wrongLine number
+  pub going-full : at < length text → number ≡ linesEnd → j ≡ wrongLine number
   going-full h e =
       let s = some-line text at h in
-      g .job ∙ ap (withDecisions (g .so-far)) (ap (readDecisions (length ms) v number (514 - number)) (s .2) ∙ no-room (length ms) v number (s .0) (s .1) (514 - number) (omega arith))
+      g .job ∙ ap (withDecisions (g .so-far)) (ap (readDecisions (length ms) v number (linesEnd - number)) (s .2) ∙ no-room (length ms) v number (s .0) (s .1) (linesEnd - number) (omega arith))
 
-  module _ (end : ℕ) (l : LineAt text at end) (a : Asked) (r : askedView a ≡ readDecision (length ms2) v (take (end - at) (drop at text))) (room : number < 514) where
+  module _ (end : ℕ) (l : LineAt text at end) (a : Asked) (r : askedView a ≡ readDecision (length ms2) v (take (end - at) (drop at text))) (room : number < linesEnd) where
     here : askedView a ≡ readDecision (length ms) v (take (end - at) (drop at text))
     here = r ∙ ap (λ (k : ℕ). readDecision k v (take (end - at) (drop at text))) (g .same-masks)
 
     pub going-wrong : (f : Fault) → a ≡ the.Wrong f → j ≡ wrongLine number
     going-wrong f e =
-        g .job ∙ ap (withDecisions (g .so-far)) (ap (readDecisions (length ms) v number (514 - number)) (l .cuts)
-        ∙ wrong-line (length ms) v number _ (lines (drop end text)) (514 - number) f (omega arith) (sym here ∙ ap askedView e))
+        g .job ∙ ap (withDecisions (g .so-far)) (ap (readDecisions (length ms) v number (linesEnd - number)) (l .cuts)
+        ∙ wrong-line (length ms) v number _ (lines (drop end text)) (linesEnd - number) f (omega arith) (sym here ∙ ap askedView e))
 
     pub going-more : (ms3 ls3 : List ℕ) → OneOf (0 ∷ 1 ∷ []) (tagOf the-type a) → length ms3 ≡ length ms2 → length ls3 ≡ length ls2
         → places ms3 ls3 ≡ decides (places ms2 ls2) (asks a) → Going text v ms ls j ms3 ls3 end (number + 1)
     unfolding decides
     going-more ms3 ls3 o p q e =
         let d = decision-of a o in
-        let m : 514 - number - 1 ≡ 514 - (number + 1) = omega arith in
+        let m : linesEnd - number - 1 ≡ linesEnd - (number + 1) = omega arith in
         record {
           inside = l .high;
           few = omega arith;
@@ -134,10 +138,10 @@ module _ (text : List ℕ) (v : ℕ) (ms ls : List ℕ) (j : Job) (ms2 ls2 : Lis
           same-limits = q ∙ g .same-limits;
           so-far = g .so-far ++ d .0 ∷ [];
           job = g .job
-              ∙ (ap (withDecisions (g .so-far)) (ap (readDecisions (length ms) v number (514 - number)) (l .cuts)
-              ∙ (more-lines (length ms) v number _ (lines (drop end text)) (514 - number) (d .0) (omega arith) (sym here ∙ d .1)
+              ∙ (ap (withDecisions (g .so-far)) (ap (readDecisions (length ms) v number (linesEnd - number)) (l .cuts)
+              ∙ (more-lines (length ms) v number _ (lines (drop end text)) (linesEnd - number) (d .0) (omega arith) (sym here ∙ d .1)
               ∙ ap (λ (k : ℕ). withDecision (d .0) (readDecisions (length ms) v (number + 1) k (lines (drop end text)))) m))
-              ∙ with-more (g .so-far) (d .0) (readDecisions (length ms) v (number + 1) (514 - (number + 1)) (lines (drop end text))));
+              ∙ with-more (g .so-far) (d .0) (readDecisions (length ms) v (number + 1) (linesEnd - (number + 1)) (lines (drop end text))));
           standing = e ∙ (ap (decides (places ms2 ls2)) (d .2) ∙ (ap (λ (ps : List _). decides ps (d .0 ∷ [])) (g .standing) ∙ sym (decides-append (places ms ls) (g .so-far) (d .0 ∷ []))));
         }
 
@@ -145,7 +149,7 @@ module _ (text : List ℕ) (v : ℕ) (ms ls : List ℕ) (j : Job) (ms2 ls2 : Lis
   unfolding lines
   going-end h = (
     g .so-far,
-    g .job ∙ (ap (withDecisions (g .so-far)) (ap (λ (s : List ℕ). readDecisions (length ms) v number (514 - number) (lines s)) (drop-of-length-le text {i = at} h) ∙ no-lines (length ms) v number (514 - number)) ∙ ap (days (length ms)) (append-nil (g .so-far))),
+    g .job ∙ (ap (withDecisions (g .so-far)) (ap (λ (s : List ℕ). readDecisions (length ms) v number (linesEnd - number) (lines s)) (drop-of-length-le text {i = at} h) ∙ no-lines (length ms) v number (linesEnd - number)) ∙ ap (days (length ms)) (append-nil (g .so-far))),
     g .standing,
   )
 

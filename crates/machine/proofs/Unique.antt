@@ -3,7 +3,7 @@ use mathlib.Core.Path.{_≡_, refl, sym, ap, _∙_}
 use mathlib.Core.Bool.{true}
 use mathlib.Core.List.{List}
 use Prim.Native.Nat.{ℕ}
-use Rattle.rules.specs.Answers.{numberOf, order, inOrder, zeros}
+use Rattle.rules.specs.Answers.{numberOf, order, inOrder}
 use Rattle.rules.specs.Checks.{Handed}
 use Rattle.rules.specs.declared.Answer.{Answer}
 use Rattle.rules.proofs.Unique.{answer-one}
@@ -36,9 +36,6 @@ unfolding order inOrder
 settle-order h m w = refl
 
 -- the helpers on lists and rows
-pub clear-unique : (s a b : List ℕ) → a ≡ zeros s → b ≡ zeros s → a ≡ b
-clear-unique s a b p q = p ∙ sym q
-
 pub copy-unique : (to from a b : List ℕ) → a ≡ copied to from → b ≡ copied to from → a ≡ b
 copy-unique to from a b p q = p ∙ sym q
 

@@ -2,9 +2,9 @@
 use mathlib.Core.Path.{_≡_, refl, sym, ap, ap₂, _∙_}
 use mathlib.Core.Bool.{Bool, true}
 use mathlib.Core.List.{List, [], _∷_}
-use Prim.Native.Nat.{ℕ}
+use Prim.Native.Nat.{ℕ, min}
 use lib.ListN.{getD}
-use Rattle.rules.specs.Answers.{numberOf, order, inOrder}
+use Rattle.rules.specs.Answers.{numberOf, zeros, order, inOrder}
 use Rattle.rules.specs.Checks.{Handed, sizeRight, sizesRight, tablesLong, rulesRight, masksRight}
 use Rattle.rules.specs.Report.{Outcome, outcome, reportChecks, reportOf}
 use Rattle.rules.specs.declared.Answer.{Answer}
@@ -69,6 +69,13 @@ rules-right-unique q v s t c f a b = test-unique
 
 pub masks-right-unique : (v : ℕ) (ms : List ℕ) (a b : Bool) → a ≡ masksRight v ms → b ≡ masksRight v ms → a ≡ b
 masks-right-unique v ms a b = test-unique
+
+-- numbers
+pub lesser-unique : (a b r s : ℕ) → r ≡ min a b → s ≡ min a b → r ≡ s
+lesser-unique a b r s p q = p ∙ sym q
+
+pub clear-unique : (s a b : List ℕ) → a ≡ zeros s → b ≡ zeros s → a ≡ b
+clear-unique s a b p q = p ∙ sym q
 
 -- the prefix report
 pub prefix-report-unique : (h : Handed) (w : List ℕ) (r s : Reported)
