@@ -3,7 +3,7 @@ pub const MOST_DECISIONS: u32 = 512;
 
 pub const MOST_MARKS: u32 = 64;
 
-pub const MOST_ENTRIES: usize = 576;
+pub const MOST_ENTRIES: usize = MOST_DECISIONS as usize + MOST_MARKS as usize;
 
 // The kinds of an entry.
 pub const KEEP: u32 = 1;
