@@ -40,67 +40,48 @@ pub(crate) const INPUT_ROOM: usize = 33000;
 pub(crate) const OUTPUT_ROOM: usize = 20000;
 
 // As many cells as all slices have room for.
-pub(crate) const CELLS: usize = 83800;
+pub(crate) const CELLS: usize = 2 * TABLE_ROOM
+    + 4 * PLACES_ROOM
+    + WORK_ROOM
+    + SESSION_ROOM
+    + INPUT_ROOM
+    + OUTPUT_ROOM;
 
-// Where a slice's cells stand.
-pub(crate) struct Region {
-    pub(crate) base: usize,
-    pub(crate) room: usize,
+// As many entries as a slice has room for.
+pub(crate) fn room_of(slice: usize) -> usize {
+    match slice {
+        TARGETS | COSTS => TABLE_ROOM,
+        MASKS | LIMITS | KEPT | ROSTER => PLACES_ROOM,
+        WORK => WORK_ROOM,
+        SESSION => SESSION_ROOM,
+        INPUT => INPUT_ROOM,
+        OUTPUT => OUTPUT_ROOM,
+        _ => 0,
+    }
 }
 
-pub(crate) fn region_of(slice: usize) -> Region {
+// Where a slice's cells begin: behind those of the slices before it.
+fn base_of(slice: usize) -> usize {
     match slice {
-        TARGETS => Region {
-            base: 0,
-            room: TABLE_ROOM,
-        },
-        COSTS => Region {
-            base: 1100,
-            room: TABLE_ROOM,
-        },
-        MASKS => Region {
-            base: 2200,
-            room: PLACES_ROOM,
-        },
-        LIMITS => Region {
-            base: 2600,
-            room: PLACES_ROOM,
-        },
-        KEPT => Region {
-            base: 3000,
-            room: PLACES_ROOM,
-        },
-        ROSTER => Region {
-            base: 3400,
-            room: PLACES_ROOM,
-        },
-        WORK => Region {
-            base: 3800,
-            room: WORK_ROOM,
-        },
-        SESSION => Region {
-            base: 27800,
-            room: SESSION_ROOM,
-        },
-        INPUT => Region {
-            base: 30800,
-            room: INPUT_ROOM,
-        },
-        OUTPUT => Region {
-            base: 63800,
-            room: OUTPUT_ROOM,
-        },
-        _ => Region { base: 0, room: 0 },
+        TARGETS => 0,
+        COSTS => TABLE_ROOM,
+        MASKS => 2 * TABLE_ROOM,
+        LIMITS => 2 * TABLE_ROOM + PLACES_ROOM,
+        KEPT => 2 * TABLE_ROOM + 2 * PLACES_ROOM,
+        ROSTER => 2 * TABLE_ROOM + 3 * PLACES_ROOM,
+        WORK => 2 * TABLE_ROOM + 4 * PLACES_ROOM,
+        SESSION => 2 * TABLE_ROOM + 4 * PLACES_ROOM + WORK_ROOM,
+        INPUT => 2 * TABLE_ROOM + 4 * PLACES_ROOM + WORK_ROOM + SESSION_ROOM,
+        _ => CELLS - OUTPUT_ROOM,
     }
 }
 
 // The entry of a slice at a place.
 pub(crate) fn entry(cells: &[u32], slice: usize, place: usize) -> u32 {
-    let region = region_of(slice);
-    if region.room <= place {
+    if room_of(slice) <= place {
         return 0;
     }
-    let at = std::num::wrapping_add_usize(region.base, place);
+    let at = std::num::wrapping_add_usize(base_of(slice), place);
     if at < cells.len() { cells[at] } else { 0 }
 }
 
@@ -115,11 +96,10 @@ fn cut(slice: usize, number: u64) -> u32 {
 
 // Sets an entry, where the slice has room for it.
 pub(crate) fn set(cells: &mut [u32], slice: usize, place: usize, number: u64) {
-    let region = region_of(slice);
-    if region.room <= place {
+    if room_of(slice) <= place {
         return;
     }
-    let at = std::num::wrapping_add_usize(region.base, place);
+    let at = std::num::wrapping_add_usize(base_of(slice), place);
     if at < cells.len() {
         cells[at] = cut(slice, number);
     }
@@ -163,7 +143,7 @@ pub(crate) fn fill(cells: &mut [u32], slice: usize, place: usize, count: usize, 
 
 // Sets a slice's length, at most its room.
 pub(crate) fn set_length(lengths: &mut [usize], slice: usize, count: usize) {
-    let room = region_of(slice).room;
+    let room = room_of(slice);
     if slice < lengths.len() {
         lengths[slice] = if count < room { count } else { room };
     }

@@ -48,7 +48,7 @@ pub(crate) fn sum_all(cells: &[u32], lengths: &[usize], sums: &mut [u32]) {
         let told = sum_of(
             cells,
             slice,
-            cells::lent(lengths, slice, cells::region_of(slice).room),
+            cells::lent(lengths, slice, cells::room_of(slice)),
         );
         sums[slice] = told.sum;
         slice += 1;
@@ -104,7 +104,7 @@ pub(crate) fn tell_changes(cells: &[u32], lengths: &[usize], before: &[u32]) {
         tell_change(
             cells,
             slice,
-            cells::lent(lengths, slice, cells::region_of(slice).room),
+            cells::lent(lengths, slice, cells::room_of(slice)),
             before[slice],
         );
         slice += 1;
@@ -114,7 +114,7 @@ pub(crate) fn tell_changes(cells: &[u32], lengths: &[usize], before: &[u32]) {
 
 // A line with a run of a slice's entries, as far as the slice goes.
 pub(crate) fn show(cells: &[u32], lengths: &[usize], slice: usize, place: usize, count: usize) {
-    let length = cells::lent(lengths, slice, cells::region_of(slice).room);
+    let length = cells::lent(lengths, slice, cells::room_of(slice));
     let end = std::num::wrapping_add_usize(place, count);
     tell_word(b"show");
     tell_entries(cells, slice, place, if end < length { end } else { length });

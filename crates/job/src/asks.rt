@@ -15,7 +15,7 @@ use text::numbers::field_at;
 use text::numbers::number_at;
 
 // As many days as a job may have.
-pub(crate) const MOST_DAYS: usize = 128;
+pub(crate) const MOST_DAYS: u32 = 128;
 
 // The first line: n.
 pub(crate) enum Days {
@@ -45,7 +45,7 @@ pub(crate) fn days_line(line: &[u8]) -> Days
     if !begins(line, b"days\t") {
         return Days::Wrong(Fault::Form);
     }
-    let n = number_at(line, 5, 1, MOST_DAYS as u32);
+    let n = number_at(line, 5, 1, MOST_DAYS);
     let Number::Value(places, end) = n else {
         return Days::Wrong(fault_of(n));
     };

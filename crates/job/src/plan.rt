@@ -25,8 +25,10 @@ use text::lines::line_end;
 // No running cost passes this.
 const TOP: u32 = (bounds::MOST_PLACES as u32) * (bounds::MOST_COST as u32);
 
-// As long as the work table of so many days is.
-const WORK_SIZE: usize = (MOST_DAYS + 1) * bounds::MOST_STATES;
+// Room for as many days as a job may have, and for their work table.
+const DAYS: usize = MOST_DAYS as usize;
+
+const WORK_SIZE: usize = (DAYS + 1) * bounds::MOST_STATES;
 
 // The lines behind the days line, for masks and limits of that many days, all full and all at the top.
 pub(crate) fn carry_out(
@@ -121,9 +123,9 @@ pub(crate) fn plan_apart(
     ensures { λ r. ⌜ Wrote (now (output .entry)) 0 (doneText (rulesOf (size .states) (size .values) (now (targets .entry)) (now (costs .entry)) accepting) (size .start .0) (readJob (size .values) (lines (now (text .entry))))) (now (output .exit)) r ⌝ }
 {
     let full = highest(size.values) as u16;
-    let mut masks = [full; MOST_DAYS];
-    let mut limits = [TOP; MOST_DAYS];
-    let mut kept = [0u16; MOST_DAYS];
+    let mut masks = [full; DAYS];
+    let mut limits = [TOP; DAYS];
+    let mut kept = [0u16; DAYS];
     let mut work = [0u32; WORK_SIZE];
     plan(
         text,

@@ -13,8 +13,8 @@ abbrev μ-loop : tie.MeasureT-loop
 loop-holds : tie.Need-loop-holds Inv-loop μ-loop
 loop-holds c = search needs
 
-region-of-requires : tie.Need-region-of-requires Inv-loop μ-loop
-region-of-requires c κs = search needs
+room-of-requires : tie.Need-room-of-requires Inv-loop μ-loop
+room-of-requires c κs = search needs
 
 lent-requires : tie.Need-lent-requires Inv-loop μ-loop
 lent-requires c κs = search needs
@@ -53,7 +53,7 @@ tell-changes-spec =
     Inv-loop
     μ-loop
     loop-holds
-    region-of-requires
+    room-of-requires
     lent-requires
     mul-tell-change
     shared-slice-read-tell-change
