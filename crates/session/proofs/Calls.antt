@@ -25,8 +25,8 @@ use Rattle.machine.proofs.Image.{one-each, held-of, entries-of, opening-of, lon
 use Rattle.machine.proofs.Decided.{Passed, through, refused-on, passed-on, lent-of, memory-of}
 use Rattle.machine.proofs.WellFormed.{formed-held, formed-fits, formed-shown}
 use Rattle.session.specs.Calls.{became, called}
-use Rattle.session.specs.Inner.{Counted, pushed, Addable, markAt, undoneAt, Formed, decidedOn}
-use Rattle.session.proofs.Pushes.{held-counts, added-fits, added-counts, added-held}
+use Rattle.session.specs.Inner.{Counted, pushed, markAt, undoneAt, Formed, decidedOn}
+use Rattle.session.proofs.Pushes.{Addable, held-counts, added-fits, added-counts, added-held}
 use Rattle.session.proofs.Backs.{counted, no-mark, undo-there, back-fits, some-marks, back-held}
 
 -- memory in which what is held has become y

@@ -1,17 +1,25 @@
 -- One more entry in what is held. Assumes nothing.
 use mathlib.Core.Path.{_≡_, refl, sym, ap, _∙_}
+use mathlib.Core.Bool.{true}
 use mathlib.Core.List.{List, [], _∷_, _++_, append-assoc}
 use Prim.Native.Nat.{ℕ, suc, _+_, _-_, _*_, _≤_, _<_}
 use native.Mathlib.Omega.{arith}
 use lib.ListN.{length, getD, set, replicate}
 use Rattle.machine.specs.Room.{mostDecisions, mostMarks, mostEntries, rowSize, rowsSize, headSize, spareSize}
 use Rattle.machine.specs.Sessions.{Opening, Entry, isMark, marks, isDecision, decisions, entryRight, entriesRight, Fits}
-use Rattle.machine.specs.Memory.{countOf, entryOf, entriesOf, openingOf, heldOf, rows, kindOf, placeOf, amountOf}
+use Rattle.machine.specs.Memory.{rowRight, countOf, entryOf, entriesOf, openingOf, heldOf, rows, kindOf, placeOf, amountOf}
 use Rattle.machine.specs.Inner.{Held}
 use Rattle.machine.proofs.Numbers.{and-both}
 use Rattle.machine.proofs.Entries.{one-mark}
 use Rattle.machine.proofs.Image.{one-each, count-all, rows-length, row-back, entry-row, reads-back, reads-fit}
-use Rattle.session.specs.Inner.{pushed, Addable}
+use Rattle.session.specs.Inner.{pushed}
+
+-- room for one more entry
+pub record Addable (n q v start k p x : ℕ) (l : List ℕ) : Type 0 where
+  pub held : Held n q v start l
+  pub row : rowRight n v k p x ≡ true
+  pub few : decisions (entryOf k p x ∷ entriesOf l) ≤ mostDecisions
+  pub open-few : marks (entryOf k p x ∷ entriesOf l) ≤ mostMarks
 
 pub mark-small : (s k : ℕ) → ((p x : ℕ) → s ≡ isMark (entryOf k p x)) → s ≤ 1
 mark-small s k f = omega (arith, f 0 0, one-mark (entryOf k 0 0))

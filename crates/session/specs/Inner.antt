@@ -8,10 +8,10 @@ use lib.ListN.{length, getD, take, drop, set, replicate}
 use Rattle.rules.specs.Answers.{check, decided, swept, zeros}
 use Rattle.rules.specs.Checks.{Handed}
 use Rattle.machine.specs.Room.{mostDecisions, mostMarks, rowSize, headSize, openingPlace, memorySize}
-use Rattle.machine.specs.Sessions.{Entry, isMark, marks, decisions}
-use Rattle.machine.specs.Memory.{countOf, rowRight, entryOf, entryAt, entriesOf, openingOf, heldIn, wellFormed}
+use Rattle.machine.specs.Sessions.{Entry, isMark, decisions}
+use Rattle.machine.specs.Memory.{countOf, entryOf, entryAt, entriesOf, openingOf, heldIn, wellFormed}
 use Rattle.machine.specs.Calls.{Left, left}
-use Rattle.machine.specs.Inner.{Held, Lent}
+use Rattle.machine.specs.Inner.{Lent}
 use Rattle.session.specs.Calls.{became}
 
 -- both counts leave room, and what is held is long enough
@@ -25,13 +25,6 @@ unfoldable pub pushed : ℕ → ℕ → ℕ → List ℕ → List ℕ
 pushed k p x l =
     let i = headSize + countOf l * rowSize in
     set (set (set (set (set l i k) (i + 1) p) (i + 2) x) 4 (getD l 4 0 + (1 - isMark (entryOf k p x)))) 5 (getD l 5 0 + isMark (entryOf k p x))
-
--- room for one more entry
-pub record Addable (n q v start k p x : ℕ) (l : List ℕ) : Type 0 where
-  pub held : Held n q v start l
-  pub row : rowRight n v k p x ≡ true
-  pub few : decisions (entryOf k p x ∷ entriesOf l) ≤ mostDecisions
-  pub open-few : marks (entryOf k p x ∷ entriesOf l) ≤ mostMarks
 
 -- the number of the newest mark among the first k entries, from 1; 0 where there is none
 unfoldable pub markAt : ℕ → List ℕ → ℕ
