@@ -42,15 +42,6 @@ module _ (ts cs front : List ℕ) where
 
 -- state by state: whether one joins
 module _ (ts cs front next : List ℕ) where
-  pub joins-none : joins ts cs front next 0 ≡ false
-  unfolding joins down
-  joins-none = refl
-
-  pub joins-more : (q : ℕ) {b : Bool} → joins ts cs front next q ≡ false → b ≡ ltb (getD front q 0 + getD cs q 0) (getD next (getD ts q 0) 0) → b ≡ false
-      → joins ts cs front next (q + 1) ≡ false
-  unfolding joins down
-  joins-more q e d f = rw (add-one, sym d ∙ f, e)
-
   pub joins-here : (q n : ℕ) {b : Bool} → q < n → b ≡ ltb (getD front q 0 + getD cs q 0) (getD next (getD ts q 0) 0) → b ≡ true → true ≡ joins ts cs front next n
   unfolding joins
   joins-here q n h d f = sym (in-any (λ q. ltb (getD front q 0 + getD cs q 0) (getD next (getD ts q 0) 0)) (in-down n q h) (sym d ∙ f))

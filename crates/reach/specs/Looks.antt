@@ -5,7 +5,7 @@ use mathlib.Core.Path.{_≡_}
 use Prim.Native.Nat.{ℕ, zero, suc, _+_, _*_, _^_, _≤_, _<_, min}
 use lib.Dec.{ltb, eqb}
 use lib.ListN.{length, getD, take}
-use Rattle.kinds.specs.Bits.{width, bit}
+use Rattle.kinds.specs.Bits.{width, bit, maskOf}
 use Rattle.rules.specs.Bounds.{mostStates, top}
 use Rattle.rules.specs.Lists.{each, any}
 use Rattle.rules.specs.Meaning.{arcsOf, rulesOf, cost, places, rosters, first, toldOf, told}
@@ -63,9 +63,17 @@ unfoldable pub lowest : List ℕ → ℕ → ℕ
 lowest row zero = suc top
 lowest row (suc q) = min (getD row q 0) (lowest row q)
 
+-- the live states of a front as bits: those below n that it has a cost at
+unfoldable pub liveOf : ℕ → List ℕ → ℕ
+liveOf n front = maskOf (λ q. ltb (getD front q 0) (suc top)) n
+
 -- costs of states, none above the top but by one
 pub record Low (n : ℕ) (front : List ℕ) : Type 0 where
   pub low : (k : ℕ) → k < n → getD front k 0 ≤ suc top
+
+-- rooms, none above the top but by one
+pub record Rooms (next : List ℕ) : Type 0 where
+  pub low : (t : ℕ) → getD next t 0 ≤ suc top
 
 -- rows of the work table that hold costs
 pub record LowRows (n rows : ℕ) (work : List ℕ) : Type 0 where

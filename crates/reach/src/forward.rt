@@ -7,7 +7,7 @@ ghost use lib.ListN.{length, getD};
 ghost use Rattle.kinds.specs.Bits.{width, bit, maskOf};
 ghost use Rattle.rules.specs.Bounds.{mostStates, mostValues, tableSize, top};
 ghost use Rattle.rooms.specs.Tables.{Filled, turned, choices, Loaded, Ready};
-ghost use Rattle.reach.specs.Looks.{joins, struck, lowest, Low, LowRows, Pushed, Swept, Opened, Stepped, Tells};
+ghost use Rattle.reach.specs.Looks.{joins, struck, lowest, liveOf, Low, LowRows, Rooms, Pushed, Swept, Opened, Stepped, Tells};
 use kinds::Mask;
 use kinds::State;
 use kinds::Value;
@@ -15,6 +15,22 @@ use rooms::backward::TOP;
 use rooms::rows;
 use rules::bounds;
 use rules::numbers::lesser;
+
+// The live states of a front, state q being bit q: those that it has a cost at.
+pub(crate) fn living(states: usize, front: &[u32]) -> u64
+    requires { ⌜ (states ≤ mostStates) × (states ≤ length (now front)) ⌝ }
+    ensures { λ r. ⌜ r ≡ liveOf states (now (front .entry)) ⌝ }
+{
+    let mut live: u64 = 0;
+    let mut q: usize = 0;
+    while q < states {
+        if front[q] <= TOP {
+            live = live | (1u64 << q);
+        }
+        q += 1;
+    }
+    live
+}
 
 // The least costs, lowered by the arcs on one value.
 pub(crate) fn push(states: usize, targets: &[u8], costs: &[u16], front: &[u32], onward: &mut [u32])
@@ -41,15 +57,17 @@ pub(crate) fn joins_at(targets: &[u8], costs: &[u16], front: &[u32], next: &[u32
 }
 
 // A state whose arc leaves a way to the end, the one to try first before all others; the number of states, where there is none.
+// Only live states are looked at, from bit to bit: what a dead one has spent is in no room.
 pub(crate) fn support(
     states: usize,
     targets: &[u8],
     costs: &[u16],
     front: &[u32],
+    live: u64,
     next: &[u32],
     hint: State,
 ) -> State
-    requires { ⌜ (states ≤ mostStates) × (states ≤ length (now targets)) × (states ≤ length (now costs)) × (states ≤ length (now front)) × (length (now next) ≡ 256) × Low states (now front) ⌝ }
+    requires { ⌜ (states ≤ mostStates) × (states ≤ length (now targets)) × (states ≤ length (now costs)) × (states ≤ length (now front)) × (length (now next) ≡ 256) × Low states (now front) × (live ≡ liveOf states (now front)) × Rooms (now next) ⌝ }
     ensures { λ r. ⌜ ltb (r .0) states ≡ joins (now (targets .entry)) (now (costs .entry)) (now (front .entry)) (now (next .entry)) states ⌝ }
 {
     if (hint.0 as usize) < states {
@@ -57,14 +75,15 @@ pub(crate) fn support(
             return hint;
         }
     }
-    let mut q: u8 = 0;
-    while (q as usize) < states {
+    let mut left = live;
+    while left != 0 {
+        let q = u64::trailing_zeros(left) as u8;
         if joins_at(targets, costs, front, next, State(q)) {
             return State(q);
         }
-        q += 1;
+        left = left & (left - 1);
     }
-    State(q)
+    State(states as u8)
 }
 
 // Whether a value is kept; its support is noted, to be tried first at the next place.
@@ -73,15 +92,16 @@ pub(crate) fn supported(
     targets: &[u8],
     costs: &[u16],
     front: &[u32],
+    live: u64,
     next: &[u32],
     v: Value,
     hints: &mut [u8],
 ) -> bool
-    requires { ⌜ (states ≤ mostStates) × (states ≤ length (now targets)) × (states ≤ length (now costs)) × (states ≤ length (now front)) × (length (now next) ≡ 256) × Low states (now front) × (v .0 < length (now hints)) ⌝ }
+    requires { ⌜ (states ≤ mostStates) × (states ≤ length (now targets)) × (states ≤ length (now costs)) × (states ≤ length (now front)) × (length (now next) ≡ 256) × Low states (now front) × (v .0 < length (now hints)) × (live ≡ liveOf states (now front)) × Rooms (now next) ⌝ }
     ensures { λ r. ⌜ r ≡ joins (now (targets .entry)) (now (costs .entry)) (now (front .entry)) (now (next .entry)) states ⌝ }
 {
     let at = v.0 as usize;
-    let q = support(states, targets, costs, front, next, State(hints[at]));
+    let q = support(states, targets, costs, front, live, next, State(hints[at]));
     hints[at] = q.0;
     (q.0 as usize) < states
 }
@@ -134,11 +154,12 @@ pub(crate) fn sweep(
     costs: &[u16],
     mask: Mask,
     front: &[u32],
+    live: u64,
     next: &[u32],
     onward: &mut [u32],
     hints: &mut [u8],
 ) -> Mask
-    requires { ⌜ (states ≤ mostStates) × (values ≤ mostValues) × (length (now targets) ≡ tableSize) × (length (now costs) ≡ tableSize) × (states ≤ length (now front)) × (length (now next) ≡ 256) × (length (now onward) ≡ 256) × (length (now hints) ≡ mostValues) × Low states (now front) ⌝ }
+    requires { ⌜ (states ≤ mostStates) × (values ≤ mostValues) × (length (now targets) ≡ tableSize) × (length (now costs) ≡ tableSize) × (states ≤ length (now front)) × (length (now next) ≡ 256) × (length (now onward) ≡ 256) × (length (now hints) ≡ mostValues) × Low states (now front) × (live ≡ liveOf states (now front)) × Rooms (now next) ⌝ }
     ensures { λ r. ⌜ Swept (turned (now (targets .entry)) (now (costs .entry))) states (choices values (mask .0)) (now (front .entry)) (now (next .entry)) (now (onward .entry)) (now (onward .exit)) (r .0) ⌝ }
 {
     let mut kept: u16 = 0;
@@ -152,6 +173,7 @@ pub(crate) fn sweep(
                 &targets[at..end],
                 &costs[at..end],
                 front,
+                live,
                 next,
                 Value(v),
                 hints,
@@ -186,9 +208,10 @@ pub(crate) fn step(
     onward: &mut [u32],
     hints: &mut [u8],
 ) -> Mask
-    requires { ⌜ (states ≤ mostStates) × (values ≤ mostValues) × (length (now targets) ≡ tableSize) × (length (now costs) ≡ tableSize) × (states ≤ length (now row)) × (states ≤ length (now front)) × (length (now next) ≡ 256) × (length (now onward) ≡ 256) × (length (now hints) ≡ mostValues) × Low states (now front) ⌝ }
+    requires { ⌜ (states ≤ mostStates) × (values ≤ mostValues) × (length (now targets) ≡ tableSize) × (length (now costs) ≡ tableSize) × (states ≤ length (now row)) × (states ≤ length (now front)) × (length (now next) ≡ 256) × (length (now onward) ≡ 256) × (length (now hints) ≡ mostValues) × Low states (now front) × Low states (now row) × Loaded (λ t. getD (now next) t 0) states (now next) ⌝ }
     ensures { λ r. ⌜ Stepped (turned (now (targets .entry)) (now (costs .entry))) states (choices values (mask .0)) (now (row .entry)) (now (front .entry)) (now (next .entry)) (now (onward .entry)) (now (front .exit)) (now (next .exit)) (now (onward .exit)) (r .0) ⌝ }
 {
+    let live = living(states, front);
     rows::copy(states, row, next);
     let kept = sweep(
         states,
@@ -197,6 +220,7 @@ pub(crate) fn step(
         costs,
         mask,
         front,
+        live,
         next,
         onward,
         hints,

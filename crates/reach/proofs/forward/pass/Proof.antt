@@ -1,7 +1,8 @@
 use Prim.Native.Nat.{_≤_, _-_}
-use mathlib.Core.Path.{_≡_, sym, _∙_}
+use mathlib.Core.Path.{_≡_, refl, sym, _∙_}
 use lib.ListN.{length, length-set, length-take, length-drop}
 use Rattle.rooms.specs.Tables.{turned}
+use Rattle.reach.proofs.Living.{row-low}
 use Rattle.reach.proofs.Passing.{Passing, passing-opens, passing-more, passing-ends}
 use borrow.Author.Needs.{needs}
 use native.Mathlib.Omega.{arith}
@@ -73,9 +74,22 @@ part-step-end : tie.Need-part-step-end Inv-loop μ-loop
 part-step-end c = omega (arith, c .before .before .before .before .before .before .before .before .before .before .before .before .before .before .before .before .before .before .before .before .before .before .pre .0 .all-work)
 
 step-requires : tie.Need-step-requires Inv-loop μ-loop
-step-requires c κs = let p = c .before .before .before .before .before .before .before .before .before .before .before .before .before .before .before .before .before .before .before .before .before .before .before .before .before .before .before .pre .0 in
-    let l = c .before .before .before .before .before .before .before .loop .inv in
-    (p .few-states, p .few-values, p .all-targets, p .all-costs, simp (length-take, length-drop) (omega (arith, p .few-states, p .all-work)), omega (arith, p .few-states), l .2, l .3, l .4, l .6 .low)
+step-requires c κs = let a = c .before .before .before .before .before .before .before .before .before .before .before .before .before .before .before .before .before .before .before .before .before .before .before .before .before .before .before in
+    let p = a .pre .0 in
+    let l = c .before .before .before .before .before .before .before .loop .inv in (
+      p .few-states,
+      p .few-values,
+      p .all-targets,
+      p .all-costs,
+      simp (length-take, length-drop) (omega (arith, p .few-states, p .all-work)),
+      omega (arith, p .few-states),
+      l .2,
+      l .3,
+      l .4,
+      l .6 .low,
+      row-low (a .args .states) (length (a .args .masks .now)) (c .before .before .before .before .before .before .before .loop .i) (a .args .work .now) (p .few-states) (c .before .before .before .before .before .before .loop-test .taken) (a .pre .1),
+      record { done = λ k h. refl; none = l .6 .none },
+    )
 
 mul-kept : tie.Need-mul-kept Inv-loop μ-loop
 mul-kept c = omega (arith, c .before .before .before .before .before .before .before .before .before .before .before .before .before .before .before .before .before .before .before .before .before .before .before .before .before .before .before .before .before .before .before .before .before .before .before .before .pre .0 .few-places)

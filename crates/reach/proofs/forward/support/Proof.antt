@@ -1,19 +1,19 @@
 use Prim.Native.Nat.{_≤_, _-_}
-use mathlib.Core.Path.{_≡_, sym, _∙_}
-use mathlib.Core.Bool.{false}
+use mathlib.Core.Path.{sym, _∙_}
 use borrow.Author.Tests.{lt-ltb, le-ltb}
-use Rattle.reach.specs.Looks.{joins}
-use Rattle.reach.proofs.Sweeping.{joins-none, joins-more, joins-here}
+use lib.Bits.{and-le-r}
+use Rattle.reach.proofs.Sweeping.{joins-here}
+use Rattle.reach.proofs.Living.{Looked, looked-none, looked-few, looked-more, looked-end}
 use borrow.Author.Needs.{needs}
 use native.Mathlib.Omega.{arith}
 use Rattle.reach.proofs.forward.support.Statement.{statement}
 use Rattle.reach.proofs.forward.support.Tie as tie
 
 abbrev Inv-loop : tie.InvT-loop
-Inv-loop states targets costs front next q₀ q = (q ≤ states) × (joins targets costs front next q ≡ false)
+Inv-loop states targets costs front live next left₀ left = (left ≤ live) × Looked targets costs front next states left
 
 abbrev μ-loop : tie.MeasureT-loop
-μ-loop states targets costs front next q₀ q = states - q
+μ-loop states targets costs front live next left₀ left = left
 
 cast-if1 : tie.Need-cast-if1 Inv-loop μ-loop
 cast-if1 c = search needs
@@ -25,29 +25,34 @@ returns : tie.Need-returns Inv-loop μ-loop
 returns c = lt-ltb _ _ (c .before .before .if1 .taken) ∙ joins-here _ _ _ _ _ _ (c .before .before .if1 .taken) (c .before .joins-at .ensures) (c .if2 .taken)
 
 loop-holds : tie.Need-loop-holds Inv-loop μ-loop
-loop-holds c = (omega arith, joins-none _ _ _ _)
+loop-holds c = (omega arith, looked-none _ _ _ _ _ _ (c .before .before .before .before .before .before .pre .6) (c .before .before .before .before .before .before .pre .7))
 
-cast-loop : tie.Need-cast-loop Inv-loop μ-loop
-cast-loop c = search needs
+cast-q : tie.Need-cast-q Inv-loop μ-loop
+cast-q c = omega (arith, looked-few _ _ _ _ _ (c .before .loop .inv .1) (omega arith) (omega arith))
 
 joins-at-requires-2 : tie.Need-joins-at-requires-2 Inv-loop μ-loop
-joins-at-requires-2 c κs = (omega arith, omega arith, omega arith, omega arith, c .before .before .before .before .before .before .before .before .pre .5 .low _ (omega arith))
+joins-at-requires-2 c κs = let h = looked-few _ _ _ _ _ (c .before .loop .inv .1) (omega arith) (omega arith) in
+    (omega arith, omega arith, omega arith, omega arith, c .before .before .before .before .before .before .before .before .pre .5 .low _ h)
 
 returns-2 : tie.Need-returns-2 Inv-loop μ-loop
-returns-2 c = lt-ltb _ _ (c .before .before .loop-test .taken) ∙ joins-here _ _ _ _ _ _ (c .before .before .loop-test .taken) (c .before .joins-at2 .ensures) (c .if3 .taken)
+returns-2 c = let h = looked-few _ _ _ _ _ (c .before .before .before .loop .inv .1) (omega arith) (omega arith) in
+    lt-ltb _ _ h ∙ joins-here _ _ _ _ _ _ h (c .before .joins-at2 .ensures) (c .if3 .taken)
 
-add-q : tie.Need-add-q Inv-loop μ-loop
-add-q c = search needs
+sub-left : tie.Need-sub-left Inv-loop μ-loop
+sub-left c = omega arith
 
 loop-less : tie.Need-loop-less Inv-loop μ-loop
-loop-less c = search needs
+loop-less c = omega (arith, and-le-r (c .before .before .before .loop .left) (c .before .before .before .loop .left - 1))
 
 loop-again : tie.Need-loop-again Inv-loop μ-loop
-loop-again c = (omega arith, joins-more _ _ _ _ _ (c .before .before .before .loop .inv .1) (c .before .joins-at2 .ensures) (c .if3 .left))
+loop-again c = (omega (arith, and-le-r (c .before .before .before .loop .left) (c .before .before .before .loop .left - 1)), looked-more _ _ _ _ _ _ (c .before .before .before .loop .inv .1) (omega arith) (omega arith) (c .before .joins-at2 .ensures) (c .if3 .left))
+
+cast-t19 : tie.Need-cast-t19 Inv-loop μ-loop
+cast-t19 c = search needs
 
 returns-3 : tie.Need-returns-3 Inv-loop μ-loop
-returns-3 c = let e : c .before .loop .q ≡ c .before .before .before .before .before .before .before .before .args .states = omega arith in
-    le-ltb _ _ (c .loop-test .left) ∙ sym (rw e at (c .before .loop .inv .1))
+returns-3 c = let n = c .before .before .before .before .before .before .before .before .args .states in
+    le-ltb n n (omega arith) ∙ sym (looked-end _ _ _ _ _ {left = c .before .loop .left} (omega arith) (c .before .loop .inv .1))
 
 pub support-spec : {M : Type 1} → statement M
 support-spec =
@@ -59,10 +64,11 @@ support-spec =
     joins-at-requires
     returns
     loop-holds
-    cast-loop
+    cast-q
     joins-at-requires-2
     returns-2
-    add-q
+    sub-left
     loop-less
     loop-again
+    cast-t19
     returns-3)

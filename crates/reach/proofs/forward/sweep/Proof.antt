@@ -11,11 +11,11 @@ use Rattle.reach.proofs.forward.sweep.Statement.{statement}
 use Rattle.reach.proofs.forward.sweep.Tie as tie
 
 abbrev Inv-loop : tie.InvT-loop
-Inv-loop states values targets costs mask front next onward₀ hints₀ kept₀ v₀ onward hints kept v = (v ≤ values) × (length onward ≡ length onward₀) × (length hints ≡ length hints₀)
+Inv-loop states values targets costs mask front live next onward₀ hints₀ kept₀ v₀ onward hints kept v = (v ≤ values) × (length onward ≡ length onward₀) × (length hints ≡ length hints₀)
     × Swept (turned targets costs) states (choices v (mask .0)) front next onward₀ onward kept
 
 abbrev μ-loop : tie.MeasureT-loop
-μ-loop states values targets costs mask front next onward₀ hints₀ kept₀ v₀ onward hints kept v = values - v
+μ-loop states values targets costs mask front live next onward₀ hints₀ kept₀ v₀ onward hints kept v = values - v
 
 loop-holds : tie.Need-loop-holds Inv-loop μ-loop
 loop-holds c = let a = c .before .before .before .before .before .before .args in
@@ -58,7 +58,8 @@ part-supported-end-2 : tie.Need-part-supported-end-2 Inv-loop μ-loop
 part-supported-end-2 c = search needs
 
 supported-requires : tie.Need-supported-requires Inv-loop μ-loop
-supported-requires c κs = (omega arith, simp (length-take, length-drop) (omega arith), simp (length-take, length-drop) (omega arith), omega arith, omega arith, c .before .before .before .before .before .before .before .before .before .before .before .before .before .pre .8, omega arith)
+supported-requires c κs = let p = c .before .before .before .before .before .before .before .before .before .before .before .before .before .pre in
+    (omega arith, simp (length-take, length-drop) (omega arith), simp (length-take, length-drop) (omega arith), omega arith, omega arith, p .8, omega arith, p .9, p .10)
 
 marked-requires : tie.Need-marked-requires Inv-loop μ-loop
 marked-requires c κs = search needs
@@ -100,7 +101,7 @@ loop-again c = let a = c .before .before .before .before .before .before .before
     (λ w. (
       omega arith,
       ap length (w .14) ∙ (w .11 .kept .1 .1 .1 .1 .0 ∙ l .inv .1),
-      ap length (w .15) ∙ (w .4 .kept .1 .1 .1 .1 .1 .1 .0 ∙ l .inv .2),
+      ap length (w .15) ∙ (w .4 .kept .1 .1 .1 .1 .1 .1 .1 .0 ∙ l .inv .2),
       swept-more (a .targets .now) (a .costs .now) (a .states) (a .mask .0) (a .front .now) (a .next .now) (l .v) (l .v * 64 + 64 - l .v * 64) (sym (c .before .has .ensures) ∙ w .0 .taken) (omega arith)
           (l .inv .3) (w .11 .ensures) (w .4 .ensures) (w .7 .ensures) (w .14) (w .16),
     ))

@@ -1,0 +1,58 @@
+use Prim.Native.Nat.{_≤_, _-_}
+use mathlib.Core.Path.{_≡_, _∙_}
+use mathlib.Core.Logic.{⊎-elim}
+use Rattle.reach.specs.Looks.{liveOf}
+use Rattle.reach.proofs.Living.{live-none, live-more, live-skip, live-end}
+use borrow.Author.Needs.{needs}
+use native.Mathlib.Omega.{arith}
+use Rattle.reach.proofs.forward.living.Statement.{statement}
+use Rattle.reach.proofs.forward.living.Tie as tie
+
+abbrev Inv-loop : tie.InvT-loop
+Inv-loop states front live₀ q₀ live q = (q ≤ states) × (live ≡ liveOf q front)
+
+abbrev μ-loop : tie.MeasureT-loop
+μ-loop states front live₀ q₀ live q = states - q
+
+loop-holds : tie.Need-loop-holds Inv-loop μ-loop
+loop-holds c = (omega arith, live-none _)
+
+mul-if1 : tie.Need-mul-if1 Inv-loop μ-loop
+mul-if1 c = search needs
+
+shared-slice-read-if1 : tie.Need-shared-slice-read-if1 Inv-loop μ-loop
+shared-slice-read-if1 c = search needs
+
+shl-live : tie.Need-shl-live Inv-loop μ-loop
+shl-live c = search needs
+
+add-q : tie.Need-add-q Inv-loop μ-loop
+add-q c = search needs
+
+loop-less : tie.Need-loop-less Inv-loop μ-loop
+loop-less c = search needs
+
+loop-again : tie.Need-loop-again Inv-loop μ-loop
+loop-again c = let l = c .before .before .before .loop in
+    ⊎-elim
+    (λ w. (omega arith, w .1 ∙ live-more _ (l .q) (l .live) (omega arith) (l .inv .1) (w .0 .taken)))
+    (λ w. (omega arith, w .1 ∙ live-skip _ (l .q) (l .live) (l .inv .1) (w .0 .left)))
+    (c .if1 .came)
+
+returns : tie.Need-returns Inv-loop μ-loop
+returns c = live-end _ _ _ _ (c .before .loop .inv .0) (c .loop-test .left) (c .before .loop .inv .1)
+
+pub living-spec : {M : Type 1} → statement M
+living-spec =
+    tie.close
+    (tie.spec
+    Inv-loop
+    μ-loop
+    loop-holds
+    mul-if1
+    shared-slice-read-if1
+    shl-live
+    add-q
+    loop-less
+    loop-again
+    returns)
