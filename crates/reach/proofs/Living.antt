@@ -17,7 +17,7 @@ use Rattle.kinds.specs.Bits.{bit, maskOf}
 use Rattle.kinds.proofs.Bits.{bit-zero, bit-suc, bit-and, bit-or, bit-none, bit-pow, bit-mask, bit-above, mask-is, mask-lt, shl-one}
 use Rattle.rules.specs.Bounds.{top}
 use Rattle.rooms.specs.Tables.{Filled, Loaded, down}
-use Rattle.reach.specs.Looks.{joins, liveOf, Low, LowRows, Rooms}
+use Rattle.reach.specs.Looks.{joins, liveOf, Held, Low, LowRows, Rooms}
 use Rattle.rooms.proofs.Filling.{row-part}
 
 -- state by state: the mask of the states that f picks
@@ -48,6 +48,9 @@ module _ (front : List ℕ) where
 
   pub live-end : (q n m : ℕ) → q ≤ n → n ≤ q → m ≡ liveOf q front → m ≡ liveOf n front
   live-end q n m h k e = let d : q ≡ n = omega arith in rw d at e
+
+  pub held-none : (n live : ℕ) → live ≡ 0 → Held n front live
+  held-none n live e = record { is = λ h. absurd (omega arith) }
 
 -- the lowest bit of a number, and the number with that bit taken off
 low-set : (k n : ℕ) → 0 < n → n < 2 ^ k → bit n (trailingZeros k n) ≡ true

@@ -67,6 +67,10 @@ lowest row (suc q) = min (getD row q 0) (lowest row q)
 unfoldable pub liveOf : ℕ → List ℕ → ℕ
 liveOf n front = maskOf (λ q. ltb (getD front q 0) (suc top)) n
 
+-- the live states, or 0 for not worked out yet
+pub record Held (n : ℕ) (front : List ℕ) (live : ℕ) : Type 0 where
+  pub is : 0 < live → live ≡ liveOf n front
+
 -- costs of states, none above the top but by one
 pub record Low (n : ℕ) (front : List ℕ) : Type 0 where
   pub low : (k : ℕ) → k < n → getD front k 0 ≤ suc top

@@ -7,7 +7,7 @@ ghost use lib.ListN.{length, getD};
 ghost use Rattle.kinds.specs.Bits.{width, bit, maskOf};
 ghost use Rattle.rules.specs.Bounds.{mostStates, mostValues, tableSize, top};
 ghost use Rattle.rooms.specs.Tables.{Filled, turned, choices, Loaded, Ready};
-ghost use Rattle.reach.specs.Looks.{joins, struck, lowest, liveOf, Low, LowRows, Rooms, Pushed, Swept, Opened, Stepped, Tells};
+ghost use Rattle.reach.specs.Looks.{joins, struck, lowest, liveOf, Held, Low, LowRows, Rooms, Pushed, Swept, Opened, Stepped, Tells};
 use kinds::Mask;
 use kinds::State;
 use kinds::Value;
@@ -56,8 +56,20 @@ pub(crate) fn joins_at(targets: &[u8], costs: &[u16], front: &[u32], next: &[u32
     spent < next[targets[at] as usize]
 }
 
-// A state whose arc leaves a way to the end, the one to try first before all others; the number of states, where there is none.
-// Only live states are looked at, from bit to bit: what a dead one has spent is in no room.
+// The live states that are held, worked out first where they are not yet (0).
+pub(crate) fn recalled(states: usize, front: &[u32], live: u64) -> u64
+    requires { ⌜ (states ≤ mostStates) × (states ≤ length (now front)) × Held states (now front) live ⌝ }
+    ensures { λ r. ⌜ r ≡ liveOf states (now (front .entry)) ⌝ }
+{
+    if live == 0 {
+        living(states, front)
+    } else {
+        live
+    }
+}
+
+// A live state whose arc leaves a way to the end; the number of states, where there is none. A dead state need not be looked at: its
+// cost is above every room.
 pub(crate) fn support(
     states: usize,
     targets: &[u8],
@@ -65,16 +77,10 @@ pub(crate) fn support(
     front: &[u32],
     live: u64,
     next: &[u32],
-    hint: State,
 ) -> State
     requires { ⌜ (states ≤ mostStates) × (states ≤ length (now targets)) × (states ≤ length (now costs)) × (states ≤ length (now front)) × (length (now next) ≡ 256) × Low states (now front) × (live ≡ liveOf states (now front)) × Rooms (now next) ⌝ }
     ensures { λ r. ⌜ ltb (r .0) states ≡ joins (now (targets .entry)) (now (costs .entry)) (now (front .entry)) (now (next .entry)) states ⌝ }
 {
-    if (hint.0 as usize) < states {
-        if joins_at(targets, costs, front, next, State(hint.0)) {
-            return hint;
-        }
-    }
     let mut left = live;
     while left != 0 {
         let q = u64::trailing_zeros(left) as u8;
@@ -86,22 +92,30 @@ pub(crate) fn support(
     State(states as u8)
 }
 
-// Whether a value is kept; its support is noted, to be tried first at the next place.
+// Whether a value is kept. Its last support is tried first, since it mostly holds; only where it fails are the live states worked out,
+// once a place, and looked through, and what they give is noted for the next place.
 pub(crate) fn supported(
     states: usize,
     targets: &[u8],
     costs: &[u16],
     front: &[u32],
-    live: u64,
+    live: &mut u64,
     next: &[u32],
     v: Value,
     hints: &mut [u8],
 ) -> bool
-    requires { ⌜ (states ≤ mostStates) × (states ≤ length (now targets)) × (states ≤ length (now costs)) × (states ≤ length (now front)) × (length (now next) ≡ 256) × Low states (now front) × (v .0 < length (now hints)) × (live ≡ liveOf states (now front)) × Rooms (now next) ⌝ }
-    ensures { λ r. ⌜ r ≡ joins (now (targets .entry)) (now (costs .entry)) (now (front .entry)) (now (next .entry)) states ⌝ }
+    requires { ⌜ (states ≤ mostStates) × (states ≤ length (now targets)) × (states ≤ length (now costs)) × (states ≤ length (now front)) × (length (now next) ≡ 256) × Low states (now front) × (v .0 < length (now hints)) × Held states (now front) (now live) × Rooms (now next) ⌝ }
+    ensures { λ r. ⌜ (r ≡ joins (now (targets .entry)) (now (costs .entry)) (now (front .entry)) (now (next .entry)) states) × Held states (now (front .entry)) (now (live .exit)) ⌝ }
 {
     let at = v.0 as usize;
-    let q = support(states, targets, costs, front, live, next, State(hints[at]));
+    let hint = State(hints[at]);
+    if (hint.0 as usize) < states {
+        if joins_at(targets, costs, front, next, hint) {
+            return true;
+        }
+    }
+    *live = recalled(states, front, *live);
+    let q = support(states, targets, costs, front, *live, next);
     hints[at] = q.0;
     (q.0 as usize) < states
 }
@@ -154,14 +168,14 @@ pub(crate) fn sweep(
     costs: &[u16],
     mask: Mask,
     front: &[u32],
-    live: u64,
     next: &[u32],
     onward: &mut [u32],
     hints: &mut [u8],
 ) -> Mask
-    requires { ⌜ (states ≤ mostStates) × (values ≤ mostValues) × (length (now targets) ≡ tableSize) × (length (now costs) ≡ tableSize) × (states ≤ length (now front)) × (length (now next) ≡ 256) × (length (now onward) ≡ 256) × (length (now hints) ≡ mostValues) × Low states (now front) × (live ≡ liveOf states (now front)) × Rooms (now next) ⌝ }
+    requires { ⌜ (states ≤ mostStates) × (values ≤ mostValues) × (length (now targets) ≡ tableSize) × (length (now costs) ≡ tableSize) × (states ≤ length (now front)) × (length (now next) ≡ 256) × (length (now onward) ≡ 256) × (length (now hints) ≡ mostValues) × Low states (now front) × Rooms (now next) ⌝ }
     ensures { λ r. ⌜ Swept (turned (now (targets .entry)) (now (costs .entry))) states (choices values (mask .0)) (now (front .entry)) (now (next .entry)) (now (onward .entry)) (now (onward .exit)) (r .0) ⌝ }
 {
+    let mut live: u64 = 0;
     let mut kept: u16 = 0;
     let mut v: u8 = 0;
     while (v as usize) < values {
@@ -173,7 +187,7 @@ pub(crate) fn sweep(
                 &targets[at..end],
                 &costs[at..end],
                 front,
-                live,
+                &mut live,
                 next,
                 Value(v),
                 hints,
@@ -211,7 +225,6 @@ pub(crate) fn step(
     requires { ⌜ (states ≤ mostStates) × (values ≤ mostValues) × (length (now targets) ≡ tableSize) × (length (now costs) ≡ tableSize) × (states ≤ length (now row)) × (states ≤ length (now front)) × (length (now next) ≡ 256) × (length (now onward) ≡ 256) × (length (now hints) ≡ mostValues) × Low states (now front) × Low states (now row) × Loaded (λ t. getD (now next) t 0) states (now next) ⌝ }
     ensures { λ r. ⌜ Stepped (turned (now (targets .entry)) (now (costs .entry))) states (choices values (mask .0)) (now (row .entry)) (now (front .entry)) (now (next .entry)) (now (onward .entry)) (now (front .exit)) (now (next .exit)) (now (onward .exit)) (r .0) ⌝ }
 {
-    let live = living(states, front);
     rows::copy(states, row, next);
     let kept = sweep(
         states,
@@ -220,7 +233,6 @@ pub(crate) fn step(
         costs,
         mask,
         front,
-        live,
         next,
         onward,
         hints,

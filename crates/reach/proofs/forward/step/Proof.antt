@@ -5,15 +5,12 @@ use borrow.Author.Needs.{needs}
 use Rattle.reach.proofs.forward.step.Statement.{statement}
 use Rattle.reach.proofs.forward.step.Tie as tie
 
-living-requires : tie.Need-living-requires
-living-requires c κs = search needs
-
 copy-requires : tie.Need-copy-requires
 copy-requires c κs = search needs
 
 sweep-requires : tie.Need-sweep-requires
-sweep-requires c κs = let p = c .before .before .before .before .before .before .before .before .before .before .before .before .before .before .before .before .before .pre in
-    (p .0, p .1, p .2, p .3, p .5, omega arith, omega arith, omega arith, p .9, c .before .before .before .before .before .before .before .before .living .ensures, rooms-copied (p .10) (p .11) (c .before .before .before .before .before .before .copy .ensures))
+sweep-requires c κs = let p = c .before .before .before .before .before .before .before .before .before .before .before .before .before .before .before .pre in
+    (p .0, p .1, p .2, p .3, p .5, omega arith, omega arith, omega arith, p .9, rooms-copied (p .10) (p .11) (c .before .before .before .before .before .before .copy .ensures))
 
 settle-requires : tie.Need-settle-requires
 settle-requires c κs = search needs
@@ -43,7 +40,6 @@ pub step-spec : {M : Type 1} → statement M
 step-spec =
     tie.close
     (tie.spec
-    living-requires
     copy-requires
     sweep-requires
     settle-requires

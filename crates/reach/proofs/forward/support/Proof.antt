@@ -15,28 +15,19 @@ Inv-loop states targets costs front live next left₀ left = (left ≤ live) × 
 abbrev μ-loop : tie.MeasureT-loop
 μ-loop states targets costs front live next left₀ left = left
 
-cast-if1 : tie.Need-cast-if1 Inv-loop μ-loop
-cast-if1 c = search needs
-
-joins-at-requires : tie.Need-joins-at-requires Inv-loop μ-loop
-joins-at-requires c κs = (omega arith, omega arith, omega arith, omega arith, c .before .before .before .before .before .before .pre .5 .low _ (omega arith))
-
-returns : tie.Need-returns Inv-loop μ-loop
-returns c = lt-ltb _ _ (c .before .before .if1 .taken) ∙ joins-here _ _ _ _ _ _ (c .before .before .if1 .taken) (c .before .joins-at .ensures) (c .if2 .taken)
-
 loop-holds : tie.Need-loop-holds Inv-loop μ-loop
-loop-holds c = (omega arith, looked-none _ _ _ _ _ _ (c .before .before .before .before .before .before .pre .6) (c .before .before .before .before .before .before .pre .7))
+loop-holds c = (omega arith, looked-none _ _ _ _ _ _ (c .before .before .before .before .pre .6) (c .before .before .before .before .pre .7))
 
 cast-q : tie.Need-cast-q Inv-loop μ-loop
 cast-q c = omega (arith, looked-few _ _ _ _ _ (c .before .loop .inv .1) (omega arith) (omega arith))
 
-joins-at-requires-2 : tie.Need-joins-at-requires-2 Inv-loop μ-loop
-joins-at-requires-2 c κs = let h = looked-few _ _ _ _ _ (c .before .loop .inv .1) (omega arith) (omega arith) in
-    (omega arith, omega arith, omega arith, omega arith, c .before .before .before .before .before .before .before .before .pre .5 .low _ h)
+joins-at-requires : tie.Need-joins-at-requires Inv-loop μ-loop
+joins-at-requires c κs = let h = looked-few _ _ _ _ _ (c .before .loop .inv .1) (omega arith) (omega arith) in
+    (omega arith, omega arith, omega arith, omega arith, c .before .before .before .before .before .before .pre .5 .low _ h)
 
-returns-2 : tie.Need-returns-2 Inv-loop μ-loop
-returns-2 c = let h = looked-few _ _ _ _ _ (c .before .before .before .loop .inv .1) (omega arith) (omega arith) in
-    lt-ltb _ _ h ∙ joins-here _ _ _ _ _ _ h (c .before .joins-at2 .ensures) (c .if3 .taken)
+returns : tie.Need-returns Inv-loop μ-loop
+returns c = let h = looked-few _ _ _ _ _ (c .before .before .before .loop .inv .1) (omega arith) (omega arith) in
+    lt-ltb _ _ h ∙ joins-here _ _ _ _ _ _ h (c .before .joins-at .ensures) (c .if1 .taken)
 
 sub-left : tie.Need-sub-left Inv-loop μ-loop
 sub-left c = omega arith
@@ -45,13 +36,16 @@ loop-less : tie.Need-loop-less Inv-loop μ-loop
 loop-less c = omega (arith, and-le-r (c .before .before .before .loop .left) (c .before .before .before .loop .left - 1))
 
 loop-again : tie.Need-loop-again Inv-loop μ-loop
-loop-again c = (omega (arith, and-le-r (c .before .before .before .loop .left) (c .before .before .before .loop .left - 1)), looked-more _ _ _ _ _ _ (c .before .before .before .loop .inv .1) (omega arith) (omega arith) (c .before .joins-at2 .ensures) (c .if3 .left))
+loop-again c = (
+  omega (arith, and-le-r (c .before .before .before .loop .left) (c .before .before .before .loop .left - 1)),
+  looked-more _ _ _ _ _ _ (c .before .before .before .loop .inv .1) (omega arith) (omega arith) (c .before .joins-at .ensures) (c .if1 .left),
+)
 
-cast-t19 : tie.Need-cast-t19 Inv-loop μ-loop
-cast-t19 c = search needs
+cast-t14 : tie.Need-cast-t14 Inv-loop μ-loop
+cast-t14 c = search needs
 
-returns-3 : tie.Need-returns-3 Inv-loop μ-loop
-returns-3 c = let n = c .before .before .before .before .before .before .before .before .args .states in
+returns-2 : tie.Need-returns-2 Inv-loop μ-loop
+returns-2 c = let n = c .before .before .before .before .before .before .args .states in
     le-ltb n n (omega arith) ∙ sym (looked-end _ _ _ _ _ {left = c .before .loop .left} (omega arith) (c .before .loop .inv .1))
 
 pub support-spec : {M : Type 1} → statement M
@@ -60,15 +54,12 @@ support-spec =
     (tie.spec
     Inv-loop
     μ-loop
-    cast-if1
-    joins-at-requires
-    returns
     loop-holds
     cast-q
-    joins-at-requires-2
-    returns-2
+    joins-at-requires
+    returns
     sub-left
     loop-less
     loop-again
-    cast-t19
-    returns-3)
+    cast-t14
+    returns-2)

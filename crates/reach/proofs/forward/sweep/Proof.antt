@@ -3,7 +3,8 @@ use mathlib.Core.Path.{_≡_, refl, sym, _∙_, ap}
 use mathlib.Core.Logic.{⊎-elim}
 use lib.ListN.{length, length-take, length-drop}
 use Rattle.rooms.specs.Tables.{turned, choices}
-use Rattle.reach.specs.Looks.{Swept}
+use Rattle.reach.specs.Looks.{Held, Swept}
+use Rattle.reach.proofs.Living.{held-none}
 use Rattle.reach.proofs.Sweeping.{swept-none, swept-more, swept-skip, swept-end}
 use borrow.Author.Needs.{needs}
 use native.Mathlib.Omega.{arith}
@@ -11,15 +12,15 @@ use Rattle.reach.proofs.forward.sweep.Statement.{statement}
 use Rattle.reach.proofs.forward.sweep.Tie as tie
 
 abbrev Inv-loop : tie.InvT-loop
-Inv-loop states values targets costs mask front live next onward₀ hints₀ kept₀ v₀ onward hints kept v = (v ≤ values) × (length onward ≡ length onward₀) × (length hints ≡ length hints₀)
-    × Swept (turned targets costs) states (choices v (mask .0)) front next onward₀ onward kept
+Inv-loop states values targets costs mask front next onward₀ hints₀ live₀ kept₀ v₀ onward hints live kept v = (v ≤ values) × (length onward ≡ length onward₀) × (length hints ≡ length hints₀)
+    × Swept (turned targets costs) states (choices v (mask .0)) front next onward₀ onward kept × Held states front live
 
 abbrev μ-loop : tie.MeasureT-loop
-μ-loop states values targets costs mask front live next onward₀ hints₀ kept₀ v₀ onward hints kept v = values - v
+μ-loop states values targets costs mask front next onward₀ hints₀ live₀ kept₀ v₀ onward hints live kept v = values - v
 
 loop-holds : tie.Need-loop-holds Inv-loop μ-loop
 loop-holds c = let a = c .before .before .before .before .before .before .args in
-    (omega arith, refl, refl, swept-none (a .targets .now) (a .costs .now) (a .states) (a .mask .0) (a .front .now) (a .next .now) (a .onward .now))
+    (omega arith, refl, refl, swept-none (a .targets .now) (a .costs .now) (a .states) (a .mask .0) (a .front .now) (a .next .now) (a .onward .now), held-none _ _ _ refl)
 
 cast-loop : tie.Need-cast-loop Inv-loop μ-loop
 cast-loop c = search needs
@@ -58,8 +59,8 @@ part-supported-end-2 : tie.Need-part-supported-end-2 Inv-loop μ-loop
 part-supported-end-2 c = search needs
 
 supported-requires : tie.Need-supported-requires Inv-loop μ-loop
-supported-requires c κs = let p = c .before .before .before .before .before .before .before .before .before .before .before .before .before .pre in
-    (omega arith, simp (length-take, length-drop) (omega arith), simp (length-take, length-drop) (omega arith), omega arith, omega arith, p .8, omega arith, p .9, p .10)
+supported-requires c κs = let p = c .before .before .before .before .before .before .before .before .before .before .before .before .before .before .pre in
+    (omega arith, simp (length-take, length-drop) (omega arith), simp (length-take, length-drop) (omega arith), omega arith, omega arith, p .8, omega arith, c .before .before .before .before .before .before .before .loop .inv .4, p .9)
 
 marked-requires : tie.Need-marked-requires Inv-loop μ-loop
 marked-requires c κs = search needs
@@ -86,7 +87,7 @@ part-push-end-2 : tie.Need-part-push-end-2 Inv-loop μ-loop
 part-push-end-2 c = search needs
 
 push-requires : tie.Need-push-requires Inv-loop μ-loop
-push-requires c κs = (simp (length-take, length-drop) (omega arith), simp (length-take, length-drop) (omega arith), omega arith, omega arith, c .before .before .before .before .before .before .before .before .before .before .before .before .before .before .before .before .before .before .before .before .pre .8)
+push-requires c κs = (simp (length-take, length-drop) (omega arith), simp (length-take, length-drop) (omega arith), omega arith, omega arith, c .before .before .before .before .before .before .before .before .before .before .before .before .before .before .before .before .before .before .before .before .before .pre .8)
 
 add-v : tie.Need-add-v Inv-loop μ-loop
 add-v c = search needs
@@ -100,16 +101,18 @@ loop-again c = let a = c .before .before .before .before .before .before .before
     ⊎-elim
     (λ w. (
       omega arith,
-      ap length (w .14) ∙ (w .11 .kept .1 .1 .1 .1 .0 ∙ l .inv .1),
-      ap length (w .15) ∙ (w .4 .kept .1 .1 .1 .1 .1 .1 .1 .0 ∙ l .inv .2),
+      ap length (w .15) ∙ (w .12 .kept .1 .1 .1 .1 .0 ∙ l .inv .1),
+      ap length (w .16) ∙ (w .5 .kept .1 .1 .1 .1 .1 .1 .1 .0 ∙ l .inv .2),
       swept-more (a .targets .now) (a .costs .now) (a .states) (a .mask .0) (a .front .now) (a .next .now) (l .v) (l .v * 64 + 64 - l .v * 64) (sym (c .before .has .ensures) ∙ w .0 .taken) (omega arith)
-          (l .inv .3) (w .11 .ensures) (w .4 .ensures) (w .7 .ensures) (w .14) (w .16),
+          (l .inv .3) (w .12 .ensures) (w .5 .ensures .0) (w .8 .ensures) (w .15) (w .18),
+      rw (w .17) (w .5 .ensures .1),
     ))
     (λ w. (
       omega arith,
       ap length (w .1) ∙ l .inv .1,
       ap length (w .2) ∙ l .inv .2,
-      swept-skip (a .targets .now) (a .costs .now) (a .states) (a .mask .0) (a .front .now) (a .next .now) (l .v) (sym (c .before .has .ensures) ∙ w .0 .left) (l .inv .3) (w .1) (w .3),
+      swept-skip (a .targets .now) (a .costs .now) (a .states) (a .mask .0) (a .front .now) (a .next .now) (l .v) (sym (c .before .has .ensures) ∙ w .0 .left) (l .inv .3) (w .1) (w .4),
+      rw (w .3) (l .inv .4),
     ))
     (c .if1 .came)
 
