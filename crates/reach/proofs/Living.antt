@@ -33,14 +33,20 @@ mask-more f q m e h =
     go u l (yes d) = rw (d, bit-above q m q small (omega arith), eq-eqb q q refl) (sym h)
     go u l (no d) = rw (ne-eqb u q d) (or-false (bit m u) ∙ rw e (bit-mask f q u (omega arith)))
 
+-- the bit of the next state; behind state 63 it is lost, and not used
+pub next-bit : (q b : ℕ) → q < 64 → b ≡ 1 * 2 ^ q % 2 ^ 64 → b * 2 ^ 1 % 2 ^ 64 ≡ 1 * 2 ^ (q + 1) % 2 ^ 64
+next-bit q b h d =
+    let e : 2 ^ q * 2 ^ 1 ≡ 1 * 2 ^ suc q = omega (arith, pow-suc 2 q) in
+    rw (d, shl-one 64 q h, add-one q) (ap (λ (x : ℕ). x % 2 ^ 64) e)
+
 module _ (front : List ℕ) where
   pub live-none : 0 ≡ liveOf 0 front
   unfolding liveOf maskOf
   live-none = refl
 
-  pub live-more : (q m : ℕ) → q < 64 → m ≡ liveOf q front → getD front q 0 ≤ 366000 → bitOr m (1 * 2 ^ q % 2 ^ 64) ≡ liveOf (q + 1) front
+  pub live-more : (q m b : ℕ) → q < 64 → m ≡ liveOf q front → b ≡ 1 * 2 ^ q % 2 ^ 64 → getD front q 0 ≤ 366000 → bitOr m b ≡ liveOf (q + 1) front
   unfolding liveOf top
-  live-more q m h e l = rw (shl-one 64 q h, add-one q) (mask-more (λ q. ltb (getD front q 0) 366001) q m e (lt-ltb (getD front q 0) 366001 (omega arith)))
+  live-more q m b h e d l = rw (d, shl-one 64 q h, add-one q) (mask-more (λ q. ltb (getD front q 0) 366001) q m e (lt-ltb (getD front q 0) 366001 (omega arith)))
 
   pub live-skip : (q m : ℕ) → m ≡ liveOf q front → 366000 < getD front q 0 → m ≡ liveOf (q + 1) front
   unfolding liveOf maskOf top

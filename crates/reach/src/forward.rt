@@ -16,17 +16,20 @@ use rooms::rows;
 use rules::bounds;
 use rules::numbers::lesser;
 
-// The live states of a front, state q being bit q: those that it has a cost at.
+// The live states of a front, state q being bit q: those that it has a cost at. The bit is carried along, so that the loop stays a
+// plain one: as 1 << q it was made a vector loop, whose constants every place had to load.
 pub(crate) fn living(states: usize, front: &[u32]) -> u64
     requires { ⌜ (states ≤ mostStates) × (states ≤ length (now front)) ⌝ }
     ensures { λ r. ⌜ r ≡ liveOf states (now (front .entry)) ⌝ }
 {
     let mut live: u64 = 0;
+    let mut bit: u64 = 1;
     let mut q: usize = 0;
     while q < states {
         if front[q] <= TOP {
-            live = live | (1u64 << q);
+            live = live | bit;
         }
+        bit = bit << 1;
         q += 1;
     }
     live

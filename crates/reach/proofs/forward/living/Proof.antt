@@ -1,30 +1,27 @@
-use Prim.Native.Nat.{_≤_, _-_}
-use mathlib.Core.Path.{_≡_, _∙_}
+use Prim.Native.Nat.{_≤_, _-_, _*_, _%_, _^_}
+use mathlib.Core.Path.{_≡_, refl, _∙_}
 use mathlib.Core.Logic.{⊎-elim}
 use Rattle.reach.specs.Looks.{liveOf}
-use Rattle.reach.proofs.Living.{live-none, live-more, live-skip, live-end}
+use Rattle.reach.proofs.Living.{next-bit, live-none, live-more, live-skip, live-end}
 use borrow.Author.Needs.{needs}
 use native.Mathlib.Omega.{arith}
 use Rattle.reach.proofs.forward.living.Statement.{statement}
 use Rattle.reach.proofs.forward.living.Tie as tie
 
 abbrev Inv-loop : tie.InvT-loop
-Inv-loop states front live₀ q₀ live q = (q ≤ states) × (live ≡ liveOf q front)
+Inv-loop states front live₀ bit₀ q₀ live bit q = (q ≤ states) × (live ≡ liveOf q front) × (bit ≡ 1 * 2 ^ q % 2 ^ 64)
 
 abbrev μ-loop : tie.MeasureT-loop
-μ-loop states front live₀ q₀ live q = states - q
+μ-loop states front live₀ bit₀ q₀ live bit q = states - q
 
 loop-holds : tie.Need-loop-holds Inv-loop μ-loop
-loop-holds c = (omega arith, live-none _)
+loop-holds c = (omega arith, live-none _, refl)
 
 mul-if1 : tie.Need-mul-if1 Inv-loop μ-loop
 mul-if1 c = search needs
 
 shared-slice-read-if1 : tie.Need-shared-slice-read-if1 Inv-loop μ-loop
 shared-slice-read-if1 c = search needs
-
-shl-live : tie.Need-shl-live Inv-loop μ-loop
-shl-live c = search needs
 
 add-q : tie.Need-add-q Inv-loop μ-loop
 add-q c = search needs
@@ -34,9 +31,10 @@ loop-less c = search needs
 
 loop-again : tie.Need-loop-again Inv-loop μ-loop
 loop-again c = let l = c .before .before .before .loop in
+    let b = next-bit (l .q) (l .bit) (omega arith) (l .inv .2) in
     ⊎-elim
-    (λ w. (omega arith, w .1 ∙ live-more _ (l .q) (l .live) (omega arith) (l .inv .1) (w .0 .taken)))
-    (λ w. (omega arith, w .1 ∙ live-skip _ (l .q) (l .live) (l .inv .1) (w .0 .left)))
+    (λ w. (omega arith, w .1 ∙ live-more _ (l .q) (l .live) (l .bit) (omega arith) (l .inv .1) (l .inv .2) (w .0 .taken), b))
+    (λ w. (omega arith, w .1 ∙ live-skip _ (l .q) (l .live) (l .inv .1) (w .0 .left), b))
     (c .if1 .came)
 
 returns : tie.Need-returns Inv-loop μ-loop
@@ -51,7 +49,6 @@ living-spec =
     loop-holds
     mul-if1
     shared-slice-read-if1
-    shl-live
     add-q
     loop-less
     loop-again
