@@ -6,3 +6,4 @@ pub mod Showing
 pub mod Planning
 pub mod Reading
 pub mod Unique
+pub mod Shortness

@@ -13,6 +13,9 @@ use Rattle.text.specs.declared.lines.Fault.the-variants.{Form}
 abbrev pub longestInput : ℕ
 longestInput = 32768
 
+abbrev pub longestOutput : ℕ
+longestOutput = 2048
+
 abbrev pub mostDays : ℕ
 mostDays = 128
 
