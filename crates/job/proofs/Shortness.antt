@@ -1,4 +1,4 @@
--- What the program prints has 1,933 bytes at the most. Assumes nothing.
+-- What the program prints has 1,823 bytes at the most, which examples/longest.job prints. Assumes nothing.
 use mathlib.Core.Path.{_≡_, refl, sym, _∙_}
 use mathlib.Core.Bool.{Bool, true, false, cond, _&&_, false≢true}
 use mathlib.Core.List.{List, [], _∷_, _++_, map}
@@ -24,6 +24,7 @@ use Rattle.rules.proofs.Decisions.{length-decides}
 use Rattle.text.specs.Bytes.{feed}
 use Rattle.text.specs.Lines.{Judged, right, wrong, onto, lines}
 use Rattle.text.specs.Numbers.{decimal}
+use Rattle.text.specs.Writing.{Wrote}
 use Rattle.text.proofs.Decimals.{decimal-small, decimal-step}
 use Rattle.sheet.specs.Lines.{Line, place, readSize, readLine}
 use Rattle.sheet.specs.Sheets.{Sheet, sheet, wrongAt, withLine, readRest, readLines, readSheet}
@@ -38,7 +39,7 @@ use Rattle.job.proofs.Reading.{read-right}
 
 -- the most that is printed
 abbrev pub mostPrinted : ℕ
-mostPrinted = 1933
+mostPrinted = 1823
 
 -- a number below 10 ^ k has at most k digits, and one has 0 (a law of text)
 pub decimal-length : (k n : ℕ) → n < 10 ^ suc k → length (decimal n) ≤ suc k
@@ -64,18 +65,32 @@ job-line : (n : ℕ) → n < 1000 → length (jobLine n) ≤ mostPrinted
 unfolding jobLine
 job-line n h = simp (field-length) (omega (arith, decimal-length 2 n h))
 
-kept-line : (i m : ℕ) → i < 1000 → m < 100000 → length (keptLine i m) ≤ 15
+kept-line : (i m : ℕ) → m < 100000 → length (keptLine i m) ≤ 12 + length (decimal i)
 unfolding keptLine
-kept-line i m h k = simp (field-length) (omega (arith, decimal-length 2 i h, decimal-length 4 m k))
+kept-line i m h = simp (field-length) (omega (arith, decimal-length 4 m h))
 
 least-line : (c : ℕ) → c < 1000000 → length (leastLine c) ≤ 13
 unfolding leastLine
 least-line c h = simp (field-length) (omega (arith, decimal-length 5 c h))
 
-kept-lines : (f : ℕ → ℕ) → ((i : ℕ) → f i < 100000) → (i n : ℕ) → i + n ≤ 1000 → length (keptLines i (map f (from i n))) ≤ n * 15
-unfolding keptLines
-kept-lines f g i zero h = omega arith
-kept-lines f g i (suc n) h = rw (length-append (keptLine i (f i)) (keptLines (suc i) (map f (from (suc i) n)))) (omega (arith, kept-line i (f i) (omega arith) (g i), kept-lines f g (suc i) n (omega arith)))
+-- the kept lines of n places from i on, where every mask has five digits
+keptRoom : ℕ → ℕ → ℕ
+keptRoom i zero = 0
+keptRoom i (suc n) = 12 + length (decimal i) + keptRoom (suc i) n
+
+room-more : (i n k : ℕ) → keptRoom i n ≤ keptRoom i (n + k)
+unfolding keptRoom
+room-more i zero k = omega arith
+room-more i (suc n) k = let e : suc n + k ≡ suc (n + k) = omega arith in rw e (omega (arith, room-more (suc i) n k))
+
+room-most : keptRoom 0 mostDays ≡ 1810
+unfolding decimal keptRoom
+room-most = refl
+
+kept-lines : (f : ℕ → ℕ) → ((i : ℕ) → f i < 100000) → (i n : ℕ) → length (keptLines i (map f (from i n))) ≤ keptRoom i n
+unfolding keptLines keptRoom
+kept-lines f g i zero = omega arith
+kept-lines f g i (suc n) = rw (length-append (keptLine i (f i)) (keptLines (suc i) (map f (from (suc i) n)))) (omega (arith, kept-line i (f i) (g i), kept-lines f g (suc i) n))
 
 -- the least cost is at most the top: no place takes a roster above it (a law of rules)
 total-top : (a : Arcs) (q c : ℕ) (ps : List Place) (w : List ℕ) → c ≤ top → fits a q c ps w ≡ true → total a q c w ≤ top
@@ -104,26 +119,30 @@ told-cheap r q c ps h =
     least-those top (total (r .arcs) q c) (allowed r q c ps) (λ w e. total-top (r .arcs) q c ps w h (both (fits (r .arcs) q c ps w) _ e .0)) (words (r .arcs .values) (length ps))
 
 -- what a filter tells
-masks-short : (r : Rules) (q : ℕ) (ps : List Place) → r .arcs .values ≤ mostValues → length ps ≤ mostDays → length (keptLines 0 (told r q 0 ps .masks)) ≤ length ps * 15
+masks-short : (r : Rules) (q : ℕ) (ps : List Place) → r .arcs .values ≤ mostValues → length ps ≤ mostDays → length (keptLines 0 (told r q 0 ps .masks)) ≤ 1810
 unfolding told kept
 masks-short r q ps hv hn =
     let p : 2 ^ r .arcs .values ≤ 2 ^ mostValues = pow-mono hv in
-    kept-lines (keptAt (r .arcs .values) (rosters r q 0 ps)) (λ i. omega (arith, kept-lt (r .arcs .values) (rosters r q 0 ps) i)) 0 (length ps) (omega arith)
+    let k : length (keptLines 0 (kept (r .arcs .values) (length ps) (rosters r q 0 ps))) ≤ keptRoom 0 (length ps) =
+    kept-lines (keptAt (r .arcs .values) (rosters r q 0 ps)) (λ i. omega (arith, kept-lt (r .arcs .values) (rosters r q 0 ps) i)) 0 (length ps) in
+    let e : length ps + (mostDays - length ps) ≡ mostDays = omega arith in
+    let m : keptRoom 0 (length ps) ≤ keptRoom 0 mostDays = rw e at (room-more 0 (length ps) (mostDays - length ps)) in
+    omega (arith, room-most)
 
 top-short : (c : ℕ) → c ≤ top → c < 1000000
 unfolding top
 top-short c h = omega arith
 
-text-short : (n a c : ℕ) (ks : List ℕ) → n ≤ mostDays → length (keptLines 0 ks) ≤ n * 15 → c ≤ top → length (toldText (toldOf a ks c)) ≤ mostPrinted
+text-short : (a c : ℕ) (ks : List ℕ) → length (keptLines 0 ks) ≤ 1810 → c ≤ top → length (toldText (toldOf a ks c)) ≤ mostPrinted
 unfolding toldText
-text-short n a c ks hn hk hc = go (eqb a 0)
+text-short a c ks hk hc = go (eqb a 0)
   where
     go : (t : Bool) → length (cond t (keptLines 0 ks ++ leastLine c) noneText) ≤ mostPrinted
     go true = rw (length-append (keptLines 0 ks) (leastLine c)) (omega (arith, least-line c (top-short c hc)))
     go false = omega arith
 
 told-short : (r : Rules) (q : ℕ) (ps : List Place) → r .arcs .values ≤ mostValues → length ps ≤ mostDays → length (toldText (told r q 0 ps)) ≤ mostPrinted
-told-short r q ps hv hn = text-short (length ps) (told r q 0 ps .answered) (told r q 0 ps .cheapest) (told r q 0 ps .masks) hn (masks-short r q ps hv hn) (told-cheap r q 0 ps (omega arith))
+told-short r q ps hv hn = text-short (told r q 0 ps .answered) (told r q 0 ps .cheapest) (told r q 0 ps .masks) (masks-short r q ps hv hn) (told-cheap r q 0 ps (omega arith))
 
 -- a job's days and its wrong line
 abbrev JobIn : Job → Type 0
@@ -258,3 +277,7 @@ job-most s = go (ltb longestInput (length s)) refl
 -- NO OUTPUT IS LONGER THAN WHAT THE PROGRAM LENDS FOR IT
 pub job-short : (s : List ℕ) → length (jobText s) ≤ longestOutput
 job-short s = omega (arith, job-most s)
+
+-- so the length that `job` gives, which counts as far as places can be counted, is no larger
+pub job-fits : (input before after : List ℕ) (next : ℕ) → Wrote before 0 (jobText input) after next → next ≤ longestOutput
+job-fits input before after next w = omega (arith, job-short input, w .ends)

@@ -1,10 +1,14 @@
 // The program: standard input to standard output.
+ghost use Prim.Native.Nat.{_≤_};
+ghost use lib.ListN.{length};
+ghost use Rattle.job.specs.Input.{longestOutput};
 
-// Writes the first bytes of what was put out.
-fn print(output: &[u8], length: usize) {
-    if length <= output.len() {
-        io::write_all(1, &output[..length]);
-    }
+// Prints what comes of an input, by way of a buffer that has room for all of it.
+fn print(input: &[u8], output: &mut [u8])
+    requires { ⌜ longestOutput ≤ length (now output) ⌝ }
+{
+    let length = job::job(input, output);
+    io::write_all(1, &output[..length]);
 }
 
 // One byte past the ceiling is enough to know that an input is too long.
@@ -12,6 +16,5 @@ fn main() {
     let mut space = [0u8; job::LONGEST_INPUT + 1];
     let got = io::read_full(0, &mut space);
     let mut output = [0u8; job::LONGEST_OUTPUT];
-    let length = job::job(&space[..got], &mut output);
-    print(&output, length);
+    print(&space[..got], &mut output);
 }
