@@ -41,7 +41,7 @@ use Rattle.job.proofs.Reading.{read-right}
 abbrev pub mostPrinted : ℕ
 mostPrinted = 1823
 
--- a number below 10 ^ k has at most k digits, and one has 0 (a law of text)
+-- a number below 10 ^ (k + 1) has at most k + 1 digits (a law of text)
 pub decimal-length : (k n : ℕ) → n < 10 ^ suc k → length (decimal n) ≤ suc k
 decimal-length zero n h = rw (decimal-small n h) (omega arith)
 decimal-length (suc k) n h = go (decLt n 10) (λ l. decimal-length k (n / 10) l)
@@ -92,7 +92,7 @@ unfolding keptLines keptRoom
 kept-lines f g i zero = omega arith
 kept-lines f g i (suc n) = rw (length-append (keptLine i (f i)) (keptLines (suc i) (map f (from (suc i) n)))) (omega (arith, kept-line i (f i) (g i), kept-lines f g (suc i) n))
 
--- the least cost is at most the top: no place takes a roster above it (a law of rules)
+-- the least cost is at most the top, since no place takes a roster above it (a law of rules)
 total-top : (a : Arcs) (q c : ℕ) (ps : List Place) (w : List ℕ) → c ≤ top → fits a q c ps w ≡ true → total a q c w ≤ top
 total-top a q c ps [] h e = h
 total-top a q c [] (v ∷ w) h e = absurd (false≢true e)
