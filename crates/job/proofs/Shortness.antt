@@ -2,9 +2,7 @@
 use mathlib.Core.Path.{_≡_, refl, sym, _∙_}
 use mathlib.Core.Bool.{Bool, true, false, cond, _&&_, false≢true}
 use mathlib.Core.List.{List, [], _∷_, _++_, map}
-use Prim.Native.Nat.{ℕ, zero, suc, _+_, _-_, _*_, _/_, _^_, _≤_, _<_, min}
-use native.Mathlib.Decide.{decLt}
-use native.Mathlib.Nat.{pow-suc}
+use Prim.Native.Nat.{ℕ, zero, suc, _+_, _-_, _^_, _≤_, _<_, min}
 use native.Mathlib.Omega.{arith}
 use lib.Dec.{eqb, leb, ltb}
 use lib.ListN.{length, replicate, length-append, length-replicate}
@@ -25,7 +23,7 @@ use Rattle.text.specs.Bytes.{feed}
 use Rattle.text.specs.Lines.{Judged, right, wrong, onto, lines}
 use Rattle.text.specs.Numbers.{decimal}
 use Rattle.text.specs.Writing.{Wrote}
-use Rattle.text.proofs.Decimals.{decimal-small, decimal-step}
+use Rattle.text.proofs.Decimals.{decimal-length, field-length}
 use Rattle.sheet.specs.Lines.{Line, place, readSize, readLine}
 use Rattle.sheet.specs.Sheets.{Sheet, sheet, wrongAt, withLine, readRest, readLines, readSheet}
 use Rattle.sheet.specs.Sheets.{onJudged as onLine}
@@ -41,22 +39,7 @@ use Rattle.job.proofs.Reading.{read-right}
 abbrev pub mostPrinted : ℕ
 mostPrinted = 1823
 
--- a number below 10 ^ (k + 1) has at most k + 1 digits (a law of text)
-pub decimal-length : (k n : ℕ) → n < 10 ^ suc k → length (decimal n) ≤ suc k
-decimal-length zero n h = rw (decimal-small n h) (omega arith)
-decimal-length (suc k) n h = go (decLt n 10) (λ l. decimal-length k (n / 10) l)
-  where
-    go : Dec (n < 10) → (n / 10 < 10 ^ suc k → length (decimal (n / 10)) ≤ suc k) → length (decimal n) ≤ suc (suc k)
-    go (yes l) rec = rw (decimal-small n l) (omega arith)
-    go (no l) rec =
-        let p : 10 ^ suc (suc k) ≡ 10 ^ suc k * 10 = pow-suc 10 (suc k) in
-        let q : length (decimal (n / 10)) ≤ suc k = rec (omega arith) in
-        rw (decimal-step n (omega arith), length-append) (omega arith)
-
 -- the lines
-field-length : (n b : ℕ) (s : List ℕ) → length (decimal n ++ b ∷ s) ≡ length (decimal n) + suc (length s)
-field-length n b s = length-append (decimal n) (b ∷ s)
-
 sheet-line : (n : ℕ) → n < 100000 → length (sheetLine n) ≤ mostPrinted
 unfolding sheetLine
 sheet-line n h = simp (field-length) (omega (arith, decimal-length 4 n h))

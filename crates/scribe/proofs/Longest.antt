@@ -1,6 +1,6 @@
 -- The longest right sheet has 18,212 bytes. Assumes nothing.
 use mathlib.Core.Path.{_≡_, refl}
-use mathlib.Core.Bool.{Bool, true}
+use mathlib.Core.Bool.{true}
 use mathlib.Core.List.{List, [], _∷_, _++_}
 use Prim.Native.Nat.{ℕ, zero, suc, _+_, _-_, _*_, _/_, _%_, _^_, _≤_, _<_}
 use native.Mathlib.Decide.{decLt, ℕ-discrete}
@@ -20,7 +20,7 @@ use Rattle.sheet.specs.Lines.{Line, final, arc, sizeText, lineText, place}
 use Rattle.kinds.specs.Bits.{bit}
 use Rattle.sheet.specs.Sheets.{linesOf, sheetText, textOf, sheet, readSheet}
 use Rattle.sheet.specs.Inner.{Sized}
-use Rattle.text.proofs.Decimals.{decimal-small, decimal-step}
+use Rattle.text.proofs.Decimals.{decimal-length, field-length}
 use Rattle.sheet.proofs.Texts.{Rising, Sheeted, sheet-read}
 use Rattle.sheet.proofs.Tables.{all-at, rising-down}
 use Rattle.sheet.proofs.Filled.{place-top}
@@ -29,9 +29,6 @@ abbrev pub longest : ℕ
 longest = 18212
 
 -- the lengths of lines and of their numbers
-field-length : (n b : ℕ) (s : List ℕ) → length (decimal n ++ b ∷ s) ≡ length (decimal n) + suc (length s)
-field-length n b s = length-append (decimal n) (b ∷ s)
-
 size-length : (z : Size) → length (sizeText z) ≡ 8 + length (decimal (z .states)) + length (decimal (z .values)) + length (decimal (z .start .0))
 unfolding sizeText
 size-length z = simp (field-length) (omega arith)
@@ -39,20 +36,6 @@ size-length z = simp (field-length) (omega arith)
 arc-length : (q v t c : ℕ) → length (lineText (arc q v t c)) ≡ 8 + length (decimal q) + length (decimal v) + length (decimal t) + length (decimal c)
 unfolding lineText
 arc-length q v t c = simp (field-length) (omega arith)
-
-two-digits : (n : ℕ) → n < 100 → length (decimal n) ≤ 2
-two-digits n h = go (decLt n 10)
-  where
-    go : Dec (n < 10) → length (decimal n) ≤ 2
-    go (yes l) = rw (decimal-small n l) (omega arith)
-    go (no l) = rw (decimal-step n (omega arith), length-append, decimal-small (n / 10) (omega arith)) (omega arith)
-
-four-digits : (n : ℕ) → n < 10000 → length (decimal n) ≤ 4
-four-digits n h = go (decLt n 100)
-  where
-    go : Dec (n < 100) → length (decimal n) ≤ 4
-    go (yes l) = omega (arith, two-digits n l)
-    go (no l) = rw (decimal-step n (omega arith), length-append, decimal-step (n / 10) (omega arith), length-append) (omega (arith, two-digits (n / 10 / 10) (omega arith)))
 
 -- the most that a final line and an arc line can have
 finalRoom : ℕ → ℕ
@@ -67,7 +50,7 @@ final-fits q = simp (field-length) (omega arith)
 
 arc-fits : (v q u t c : ℕ) → u < v → t < 100 → c ≤ mostCost → length (lineText (arc q u t c)) ≤ arcRoom v (q * v + u)
 unfolding arcRoom
-arc-fits v q u t c h k l = rw (digits-div q h, digits-mod q h) (omega (arith, arc-length q u t c, two-digits t k, four-digits c (omega arith)))
+arc-fits v q u t c h k l = rw (digits-div q h, digits-mod q h) (omega (arith, arc-length q u t c, decimal-length 1 t k, decimal-length 3 c (omega arith)))
 
 sum : (ℕ → ℕ) → ℕ → ℕ → ℕ
 sum f i zero = 0
@@ -150,7 +133,7 @@ text-short z ls g r =
     let e : z .states * z .values + (mostStates * z .values - z .states * z .values) ≡ mostStates * z .values = omega arith in
     rw e at (sum-more (arcRoom (z .values)) 0 (z .states * z .values) (mostStates * z .values - z .states * z .values)) in
     rw (length-append (sizeText z) (each lineText ls))
-    (omega (arith, finals-most, finals-short z g 0 (z .states) ls (omega arith) r, size-length z, two-digits (z .states) (omega arith), two-digits (z .values) (omega arith), two-digits (z .start .0) (omega arith)))
+    (omega (arith, finals-most, finals-short z g 0 (z .states) ls (omega arith) r, size-length z, decimal-length 1 (z .states) (omega arith), decimal-length 1 (z .values) (omega arith), decimal-length 1 (z .start .0) (omega arith)))
 
 pub sheet-short : (text : List ℕ) (z : Size) (ls : List Line) → readSheet text ≡ sheet z ls → length text ≤ longest
 sheet-short text z ls e = let w : Sheeted text z ls = sheet-read text z ls e in rw (w .text) (text-short z ls (w .size) (w .rising))

@@ -2,10 +2,12 @@
 use mathlib.Core.Path.{_≡_, refl, ap, sym, _∙_}
 use mathlib.Core.Bool.{Bool, true, false, cond, not, _&&_, _||_, false≢true}
 use mathlib.Core.List.{List, [], _∷_, _++_, append-assoc, append-nil}
-use Prim.Native.Nat.{ℕ, zero, suc, _+_, _-_, _*_, _/_, _%_, _≤_, _<_}
+use Prim.Native.Nat.{ℕ, zero, suc, _+_, _-_, _*_, _/_, _%_, _^_, _≤_, _<_}
 use native.Mathlib.Omega.{arith}
 use native.Mathlib.Decide.{decLt}
+use native.Mathlib.Nat.{pow-suc}
 use lib.Dec.{leb, eqb}
+use lib.ListN.{length, length-append}
 use borrow.Author.Tests.{lt-ltb, le-ltb, le-leb, lt-leb, eq-eqb, ne-eqb, leb-true, eqb-true}
 use Rattle.rules.proofs.Checks.{both}
 use Rattle.text.specs.Bytes.{tab, nought, isDigit}
@@ -39,6 +41,22 @@ pub decimal-step : (n : ℕ) → 10 ≤ n → decimal n ≡ decimal (n / 10) ++ 
 unfolding decimal
 decimal-step zero h = absurd (let z : suc 0 ≤ 0 = omega arith in omega arith)
 decimal-step (suc n) h = within-step n (suc n) h ∙ ap (λ (l : List ℕ). l ++ (nought + suc n % 10) ∷ []) (fuel n (suc n / 10) (suc n / 10) (omega arith) (omega arith))
+
+-- a number below 10 ^ (k + 1) has at most k + 1 digits
+pub decimal-length : (k n : ℕ) → n < 10 ^ suc k → length (decimal n) ≤ suc k
+decimal-length zero n h = rw (decimal-small n h) (omega arith)
+decimal-length (suc k) n h = go (decLt n 10) (λ l. decimal-length k (n / 10) l)
+  where
+    go : Dec (n < 10) → (n / 10 < 10 ^ suc k → length (decimal (n / 10)) ≤ suc k) → length (decimal n) ≤ suc (suc k)
+    go (yes l) rec = rw (decimal-small n l) (omega arith)
+    go (no l) rec =
+        let p : 10 ^ suc (suc k) ≡ 10 ^ suc k * 10 = pow-suc 10 (suc k) in
+        let q : length (decimal (n / 10)) ≤ suc k = rec (omega arith) in
+        rw (decimal-step n (omega arith), length-append) (omega arith)
+
+-- a field has its digits and what ends it
+pub field-length : (n b : ℕ) (s : List ℕ) → length (decimal n ++ b ∷ s) ≡ length (decimal n) + suc (length s)
+field-length n b s = length-append (decimal n) (b ∷ s)
 
 -- induction along the digits
 by-digits : (P : ℕ → Type 0) → ((n : ℕ) → n < 10 → P n) → ((n : ℕ) → 10 ≤ n → P (n / 10) → P n) → (f n : ℕ) → n ≤ f → P n
