@@ -1,10 +1,11 @@
--- K1 to K12 of the paper, about the definitions: one statement over one table.
+-- The sheet W of the paper, about the definitions: what it accepts, and K1 to K12 as one statement over one table.
 use mathlib.Core.Path.{_≡_, refl}
 use mathlib.Core.List.{List, [], _∷_, map}
 use Prim.Native.Nat.{ℕ}
 use Rattle.kinds.specs.Bits.{bit, maskOf}
 use Rattle.rules.specs.Bounds.{top}
-use Rattle.rules.specs.Meaning.{Rules, places, rosters, kept, keptAt, first, told}
+use Rattle.rules.specs.Lists.{those}
+use Rattle.rules.specs.Meaning.{Rules, accepted, words, places, rosters, kept, keptAt, first, told}
 
 -- the sheet W
 unfoldable pub W : Rules
@@ -18,6 +19,41 @@ W = record {
   accepting = 61;
 }
 
+-- its values
+abbrev d : ℕ
+d = 0
+
+abbrev e : ℕ
+e = 1
+
+abbrev x : ℕ
+x = 2
+
+-- OF THE ROSTERS OF LENGTH 3 IT ACCEPTS EIGHT: ddx, eex, exe, exx, xdd, xee, xex, xxe
+unfoldable pub eight : List (List ℕ)
+eight =
+    (d ∷ d ∷ x ∷ [])
+    ∷ (e ∷ e ∷ x ∷ [])
+    ∷ (e ∷ x ∷ e ∷ [])
+    ∷ (e ∷ x ∷ x ∷ [])
+    ∷ (x ∷ d ∷ d ∷ [])
+    ∷ (x ∷ e ∷ e ∷ [])
+    ∷ (x ∷ e ∷ x ∷ [])
+    ∷ (x ∷ x ∷ e ∷ [])
+    ∷ []
+
+pub accepts : those (accepted W 0) (words 3 3) ≡ eight
+unfolding W eight bit
+accepts = refl
+
+-- and these are its rosters where neither masks nor limits forbid any
+abbrev free : ℕ
+free = top
+
+pub allows : rosters W 0 0 (places (7 ∷ 7 ∷ 7 ∷ []) (free ∷ free ∷ free ∷ [])) ≡ eight
+unfolding W eight top places bit rosters
+allows = refl
+
 -- masks and limits; then what a filter tells (answer, kept masks, least cost), or a place, a value, and the first roster with that
 -- value at that place
 pub data Case : Type 0 where
@@ -29,9 +65,6 @@ abbrev pub said : Case → Case
 said (Filter ms ls a ks c) =
     let t = told W 0 0 (places ms ls) in Filter ms ls (t .answered) (t .masks) (t .cheapest)
 said (First ms ls i v w) = First ms ls i v (first i v (rosters W 0 0 (places ms ls)))
-
-abbrev free : ℕ
-free = top
 
 unfoldable pub table : List Case
 table =
