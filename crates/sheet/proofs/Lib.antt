@@ -7,3 +7,4 @@ pub mod Judging
 pub mod Taking
 pub mod Outcomes
 pub mod Unique
+pub mod Worked
