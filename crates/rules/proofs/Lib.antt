@@ -5,5 +5,6 @@ pub mod Kept
 pub mod Narrow
 pub mod Decisions
 pub mod Checks
+pub mod Within
 pub mod Walk
 pub mod Unique

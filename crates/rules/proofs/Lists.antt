@@ -2,7 +2,7 @@
 use mathlib.Core.Path.{_≡_, refl, sym, ap, _∙_}
 use mathlib.Core.Bool.{Bool, true, false, cond, _&&_, _||_, false≢true}
 use mathlib.Core.Logic.{_⊎_, inl, inr, ⊎-elim}
-use mathlib.Core.List.{List, [], _∷_, Memᴰ·append-left, Memᴰ·append-right}
+use mathlib.Core.List.{List, [], _∷_, map, Memᴰ·append-left, Memᴰ·append-right}
 use mathlib.Core.List.{List·Memᴰ as In, List·Memᴰ·head as head, List·Memᴰ·tail as tail, List·Memᴰ·not-nil as not-nil, List·Memᴰ·cases-cons as cases, List·Memᴰ·append-cases as append-cases}
 use Prim.Native.Nat.{ℕ, zero, suc, _+_, _≤_, _<_}
 use native.Mathlib.Omega.{arith}
@@ -64,6 +64,11 @@ module _ {A : Type 0} where
       go false k = k
 
 module _ {A B : Type 0} where
+  -- functions that agree on the list send it to the same
+  pub map-same : (f g : A → B) (xs : List A) → ((x : A) → In x xs → f x ≡ g x) → map f xs ≡ map g xs
+  map-same f g [] h = refl
+  map-same f g (x ∷ xs) h = rw (h x (head refl), map-same f g xs (λ y m. h y (tail m)))
+
   -- what is in the joined lists is in the list of one of them
   pub each-in : (f : A → List B) (xs : List A) {y : B} → In y (each f xs) → (x : A) × In x xs × In y (f x)
   each-in f [] m = absurd (not-nil m)
