@@ -5,6 +5,7 @@ pub mod Kept
 pub mod Narrow
 pub mod Decisions
 pub mod Checks
+pub mod Lawful
 pub mod Within
 pub mod Walk
 pub mod Unique

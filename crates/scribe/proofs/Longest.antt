@@ -2,7 +2,7 @@
 use mathlib.Core.Path.{_≡_, refl, ap, _∙_}
 use mathlib.Core.Logic.{inr}
 use mathlib.Core.Bool.{true, cond}
-use mathlib.Core.List.{List, [], _∷_, _++_, append-nil}
+use mathlib.Core.List.{List, [], _∷_, append-nil}
 use Prim.Native.Nat.{ℕ, zero, suc, _+_, _-_, _*_, _/_, _%_, _^_, _≤_, _<_}
 use native.Mathlib.Decide.{decLt}
 use native.Mathlib.Omega.{arith}
@@ -16,6 +16,7 @@ use Rattle.rules.specs.Lists.{from, each}
 use Rattle.rules.specs.Checks.{sizeRight, tablesLong, rulesRight}
 use Rattle.rules.specs.Meaning.{Arcs, Rules, rulesOf}
 use Rattle.rules.specs.declared.Size.{Size}
+use Rattle.rules.proofs.Lawful.{lawful-right}
 use Rattle.text.specs.Numbers.{decimal}
 use Rattle.text.proofs.Decimals.{decimal-small, decimal-step, decimal-length, field-length}
 use Rattle.sheet.specs.Lines.{Line, final, arc, sizeOf, sizeText, lineText, place}
@@ -23,7 +24,7 @@ use Rattle.sheet.specs.Sheets.{finalLine, sheetText, textOf, sheet, readSheet}
 use Rattle.sheet.specs.Inner.{Sized}
 use Rattle.sheet.proofs.Below.{each-append, each-each}
 use Rattle.sheet.proofs.Texts.{LineIn, Rising, Sheeted, sheet-read}
-use Rattle.sheet.proofs.Tables.{lawful-right, placeLine, lines-flat}
+use Rattle.sheet.proofs.Tables.{placeLine, lines-flat}
 use Rattle.sheet.proofs.Filled.{place-top}
 use Rattle.sheet.proofs.OneText.{size-in}
 

@@ -16,13 +16,14 @@ use Rattle.rules.specs.Bounds.{mostStates, mostCost, noTarget}
 use Rattle.rules.specs.Lists.{from, each, any}
 use Rattle.rules.specs.Meaning.{arcsOf, rulesOf}
 use Rattle.rules.specs.Checks.{tablesRight}
+use Rattle.rules.proofs.Lawful.{ArcIn, lawful-right}
 use Rattle.rules.specs.declared.Size.{Size}
 use Rattle.sheet.specs.Lines.{Line, final, arc, place}
 use Rattle.sheet.specs.Sheets.{finalLine, linesOf, names, acceptingOf, puts, theTarget, theCost, blank, targetsOf, costsOf}
 use Rattle.sheet.specs.Inner.{Sized}
 use Rattle.sheet.proofs.Texts.{LineIn, Rising}
 use Rattle.sheet.proofs.Below.{mask-cut}
-use Rattle.sheet.proofs.Tables.{ArcIn, lawful-right, placeLine, lines-flat, rising-down}
+use Rattle.sheet.proofs.Tables.{placeLine, lines-flat, rising-down}
 
 -- an entry below the places of all lines stays
 puts-below : (z : Size) (f : ℕ → ℕ → ℕ) (j : ℕ) (ls : List Line) (xs : List ℕ) → Rising z (z .states + suc j) ls → getD (puts (z .values) f ls xs) j 0 ≡ getD xs j 0

@@ -13,6 +13,7 @@ use Rattle.rules.specs.Answers.{check, decided}
 use Rattle.rules.specs.Checks.{sizeRight, tablesLong, rulesRight}
 use Rattle.rules.specs.declared.Size.{Size}
 use Rattle.rules.proofs.Checks.{both, size-of, size-last, long-tables, arcs-few}
+use Rattle.rules.proofs.Lawful.{Lawful, lawful}
 use Rattle.sheet.specs.Lines.{sizeOf, Line, sizeText, lineText, place}
 use Rattle.text.specs.Lines.{lines}
 use Rattle.sheet.specs.Sheets.{linesOf, textOf, sheetText, Sheet, sheet, wrongAt, readSheet, acceptingOf, targetsOf, costsOf}
@@ -20,7 +21,7 @@ use Rattle.sheet.specs.Reading.{readLeft, readOf, isRight, readRefused, 
 use Rattle.sheet.specs.Inner.{Sized}
 use Rattle.text.proofs.Cutting.{lines-one}
 use Rattle.sheet.proofs.Texts.{Rising, joined, one-size, one-line, sheet-text, Sheeted, sheet-read}
-use Rattle.sheet.proofs.Tables.{Lawful, lawful, lines-rising, lines-accepting, lines-targets, lines-costs}
+use Rattle.sheet.proofs.Tables.{lines-rising, lines-accepting, lines-targets, lines-costs}
 use Rattle.sheet.proofs.Filled.{targets-length, costs-length, lines-back, rules-back}
 
 pub size-in : (q v s : ℕ) → sizeRight q v s ≡ true → Sized (sizeOf q v s)

@@ -1,81 +1,29 @@
 -- The lines of a rule set: they are in order, and they put its accepting mask and its tables back. Assumes nothing.
 use mathlib.Core.Path.{_≡_, refl, ap, sym, _∙_}
-use mathlib.Core.Logic.{_⊎_, ⊎-elim, inl, inr}
-use mathlib.Core.Bool.{Bool, true, false, cond, _&&_, _||_, or-false, or-true}
+use mathlib.Core.Logic.{⊎-elim}
+use mathlib.Core.Bool.{Bool, true, false, cond, _||_, or-false}
 use mathlib.Core.List.{List, [], _∷_, _++_}
 use Prim.Native.Nat.{ℕ, zero, suc, _+_, _*_, _/_, _%_, _^_, _≤_, _<_}
 use native.Mathlib.Decide.{decLt, ℕ-discrete}
 use native.Mathlib.Nat.{div-add-mod', mod-lt, div-lt-iff-lt-mul}
 use native.Mathlib.Omega.{arith}
-use lib.Dec.{eqb, leb, ltb}
-use lib.ListN.{length, getD, take, drop, set, replicate, length-append}
+use lib.Dec.{ltb}
+use lib.ListN.{length, getD, take, drop, replicate, length-append}
 use lib.Pow.{pow-mono}
 use lib.Seq.{drop-cons, append-snoc, set-at}
-use borrow.Author.Tests.{eq-eqb, ne-eqb, eqb-true, leb-true, ltb-true, ltb-false, lt-ltb, le-leb}
+use borrow.Author.Tests.{eq-eqb, ne-eqb, ltb-true, ltb-false}
 use Rattle.kinds.specs.Bits.{bit}
 use Rattle.kinds.proofs.Bits.{bit-above, mask-is}
 use Rattle.rules.specs.Bounds.{mostStates, mostCost, noTarget}
-use Rattle.rules.specs.Lists.{from, each, any, all}
-use Rattle.rules.specs.Meaning.{Arcs, Rules, rulesOf}
-use Rattle.rules.specs.Checks.{arcRight, tablesFrom, tablesRight}
+use Rattle.rules.specs.Lists.{from, each, any}
+use Rattle.rules.specs.Meaning.{Arcs, Rules}
 use Rattle.rules.specs.declared.Size.{Size}
-use Rattle.rules.proofs.Checks.{both}
+use Rattle.rules.proofs.Lawful.{Lawful}
 use Rattle.sheet.specs.Lines.{sizeOf, Line, final, arc, place}
 use Rattle.sheet.specs.Sheets.{finalLine, arcLine, linesOf, names, acceptingOf, puts, theTarget, theCost, blank, targetsOf, costsOf}
 use Rattle.sheet.specs.Inner.{Sized}
 use Rattle.sheet.proofs.Below.{any-append, each-same, pairs-flat}
-use Rattle.text.proofs.Decimals.{or-cases}
 use Rattle.sheet.proofs.Texts.{Rising}
-
--- what the check of the tables says of them
-abbrev pub ArcIn : ℕ → ℕ → ℕ → Type 0
-ArcIn q t c = ((t ≡ noTarget) × (c ≡ 0)) ⊎ ((t < q) × (c ≤ mostCost))
-
-pub record Lawful (r : Rules) : Type 0 where
-  pub bits : r .accepting < 2 ^ r .arcs .states
-  pub entry : (k : ℕ) → k < r .arcs .states * r .arcs .values → ArcIn (r .arcs .states) (getD (r .arcs .targets) k 0) (getD (r .arcs .costs) k 0)
-
-pub all-at : (f : ℕ → Bool) (i n k : ℕ) → all f (from i n) ≡ true → i ≤ k → k < i + n → f k ≡ true
-all-at f i zero k h a b = absurd (omega arith)
-all-at f i (suc n) k h a b =
-    let p : (f i ≡ true) × (all f (from (suc i) n) ≡ true) = both (f i) _ h in
-    go (p .0) (ℕ-discrete i k) (λ x. all-at f (suc i) n k (p .1) x (omega arith))
-  where
-    go : f i ≡ true → Dec (i ≡ k) → (suc i ≤ k → f k ≡ true) → f k ≡ true
-    go x (yes e) later = rw (← e) x
-    go x (no e) later = later (omega arith)
-
-arc-in : (q t c : ℕ) → arcRight q t c ≡ true → ArcIn q t c
-unfolding arcRight
-arc-in q t c h =
-    or-cases (eqb t noTarget && eqb c 0) (ltb t q && leb c mostCost) h
-    (λ e. let p = both (eqb t noTarget) _ e in inl (eqb-true _ _ (p .0), eqb-true _ _ (p .1)))
-    (λ e. let p = both (ltb t q) _ e in inr (ltb-true _ _ (p .0), leb-true _ _ (p .1)))
-
-pub lawful : (q v : ℕ) (t c : List ℕ) (a : ℕ) → tablesRight q v t c a ≡ true → Lawful (rulesOf q v t c a)
-unfolding tablesRight tablesFrom
-lawful q v t c a h =
-    let p = both (all (λ k. arcRight q (getD t k 0) (getD c k 0)) (from 0 (q * v))) _ h in
-    record {
-      bits = ltb-true _ _ (p .1);
-      entry = λ k l. arc-in _ _ _ (all-at (λ k. arcRight q (getD t k 0) (getD c k 0)) 0 (q * v) k (p .0) (omega arith) (omega arith));
-    }
-
-all-of : (f : ℕ → Bool) (i n : ℕ) → ((k : ℕ) → i ≤ k → k < i + n → f k ≡ true) → all f (from i n) ≡ true
-all-of f i zero h = refl
-all-of f i (suc n) h = rw (h i (omega arith) (omega arith)) (all-of f (suc i) n (λ k a b. h k (omega arith) (omega arith)))
-
-in-arc : (q t c : ℕ) → ArcIn q t c → arcRight q t c ≡ true
-unfolding arcRight
-in-arc q t c h =
-    ⊎-elim (λ x. rw (eq-eqb t noTarget (x .0), eq-eqb c 0 (x .1))) (λ x. rw (lt-ltb t q (x .0), le-leb c mostCost (x .1)) (or-true (eqb t noTarget && eqb c 0))) h
-
-pub lawful-right : (r : Rules) → Lawful r → tablesRight (r .arcs .states) (r .arcs .values) (r .arcs .targets) (r .arcs .costs) (r .accepting) ≡ true
-unfolding tablesRight tablesFrom
-lawful-right r w =
-    rw (all-of (λ k. arcRight (r .arcs .states) (getD (r .arcs .targets) k 0) (getD (r .arcs .costs) k 0)) 0 (r .arcs .states * r .arcs .values)
-    (λ k a b. in-arc _ _ _ (w .entry k (omega arith))))
-    (lt-ltb _ _ (w .bits))
 
 -- the arc line of place k of the tables
 abbrev pub placeLine : Arcs → ℕ → List Line

@@ -1,6 +1,6 @@
 -- Laws of decimal numbers: a number's digits read back as the number, and what reads as a number is its digits. Assumes nothing.
 use mathlib.Core.Path.{_≡_, refl, ap, sym, _∙_}
-use mathlib.Core.Bool.{Bool, true, false, cond, not, _&&_, _||_, false≢true}
+use mathlib.Core.Bool.{Bool, true, false, cond, _&&_, false≢true}
 use mathlib.Core.List.{List, [], _∷_, _++_, append-assoc, append-nil}
 use Prim.Native.Nat.{ℕ, zero, suc, _+_, _-_, _*_, _/_, _%_, _^_, _≤_, _<_}
 use native.Mathlib.Omega.{arith}
@@ -9,10 +9,9 @@ use native.Mathlib.Nat.{pow-suc}
 use lib.Dec.{leb, eqb}
 use lib.ListN.{length, length-append}
 use borrow.Author.Tests.{lt-ltb, le-ltb, le-leb, lt-leb, eq-eqb, ne-eqb, leb-true, eqb-true}
-use Rattle.rules.proofs.Checks.{both}
+use Rattle.rules.proofs.Checks.{both, or-cases, never}
 use Rattle.text.specs.Bytes.{tab, nought, isDigit}
 use Rattle.text.specs.Numbers.{decimalIn, decimal, digits, past, value, plain, fieldEnd, Field, number, malformed, outside, readNumber, tabbed, readField}
-use Rattle.rules.proofs.Checks.{never}
 
 within-small : (f n : ℕ) → n < 10 → decimalIn f n ≡ (nought + n) ∷ []
 unfolding decimalIn
@@ -203,10 +202,6 @@ decimal-plain (d ∷ e ∷ ds) p a =
     let x : nought + (0 * 10 + (d - nought)) ≡ d = omega arith in
     decimal-value (0 * 10 + (d - nought)) (e ∷ ds) (omega arith) (a .2)
     ∙ rw (decimal-small (0 * 10 + (d - nought)) (omega arith), x)
-
-pub or-cases : {A : Type 0} (a b : Bool) → (a || b) ≡ true → (a ≡ true → A) → (b ≡ true → A) → A
-or-cases true b e f g = f refl
-or-cases false b e f g = g e
 
 end-no-digit : (r : List ℕ) → fieldEnd r ≡ true → NoDigit r
 unfolding fieldEnd

@@ -1,0 +1,92 @@
+-- What the check of the tables says of them, entry by entry; and that no roster of a lawful rule set passes the top. Assumes nothing.
+use mathlib.Core.Path.{_≡_, refl}
+use mathlib.Core.Logic.{_⊎_, ⊎-elim, inl, inr}
+use mathlib.Core.Bool.{Bool, true, _&&_, or-true}
+use mathlib.Core.List.{List, [], _∷_}
+use Prim.Native.Nat.{ℕ, zero, suc, _+_, _*_, _^_, _≤_, _<_}
+use native.Mathlib.Decide.{ℕ-discrete}
+use native.Mathlib.Omega.{arith}
+use lib.Arith.{digits-lt}
+use lib.Dec.{eqb, leb, ltb}
+use lib.ListN.{length, getD, take}
+use lib.Seq.{take-length}
+use borrow.Author.Tests.{eq-eqb, eqb-true, leb-true, ltb-true, lt-ltb, le-leb}
+use Rattle.rules.specs.Bounds.{mostPlaces, mostCost, noTarget, top}
+use Rattle.rules.specs.Lists.{from, all}
+use Rattle.rules.specs.Meaning.{Rules, rulesOf, target, cost, hasArc, accepted, total}
+use Rattle.rules.specs.Checks.{arcRight, tablesFrom, tablesRight}
+use Rattle.rules.proofs.Checks.{both, or-cases}
+use Rattle.rules.proofs.Members.{Below}
+
+abbrev pub ArcIn : ℕ → ℕ → ℕ → Type 0
+ArcIn q t c = ((t ≡ noTarget) × (c ≡ 0)) ⊎ ((t < q) × (c ≤ mostCost))
+
+pub record Lawful (r : Rules) : Type 0 where
+  pub bits : r .accepting < 2 ^ r .arcs .states
+  pub entry : (k : ℕ) → k < r .arcs .states * r .arcs .values → ArcIn (r .arcs .states) (getD (r .arcs .targets) k 0) (getD (r .arcs .costs) k 0)
+
+all-at : (f : ℕ → Bool) (i n k : ℕ) → all f (from i n) ≡ true → i ≤ k → k < i + n → f k ≡ true
+all-at f i zero k h a b = absurd (omega arith)
+all-at f i (suc n) k h a b =
+    let p : (f i ≡ true) × (all f (from (suc i) n) ≡ true) = both (f i) _ h in
+    go (p .0) (ℕ-discrete i k) (λ x. all-at f (suc i) n k (p .1) x (omega arith))
+  where
+    go : f i ≡ true → Dec (i ≡ k) → (suc i ≤ k → f k ≡ true) → f k ≡ true
+    go x (yes e) later = rw (← e) x
+    go x (no e) later = later (omega arith)
+
+arc-in : (q t c : ℕ) → arcRight q t c ≡ true → ArcIn q t c
+unfolding arcRight
+arc-in q t c h =
+    or-cases (eqb t noTarget && eqb c 0) (ltb t q && leb c mostCost) h
+    (λ e. let p = both (eqb t noTarget) _ e in inl (eqb-true _ _ (p .0), eqb-true _ _ (p .1)))
+    (λ e. let p = both (ltb t q) _ e in inr (ltb-true _ _ (p .0), leb-true _ _ (p .1)))
+
+pub lawful : (q v : ℕ) (t c : List ℕ) (a : ℕ) → tablesRight q v t c a ≡ true → Lawful (rulesOf q v t c a)
+unfolding tablesRight tablesFrom
+lawful q v t c a h =
+    let p = both (all (λ k. arcRight q (getD t k 0) (getD c k 0)) (from 0 (q * v))) _ h in
+    record {
+      bits = ltb-true _ _ (p .1);
+      entry = λ k l. arc-in _ _ _ (all-at (λ k. arcRight q (getD t k 0) (getD c k 0)) 0 (q * v) k (p .0) (omega arith) (omega arith));
+    }
+
+all-of : (f : ℕ → Bool) (i n : ℕ) → ((k : ℕ) → i ≤ k → k < i + n → f k ≡ true) → all f (from i n) ≡ true
+all-of f i zero h = refl
+all-of f i (suc n) h = rw (h i (omega arith) (omega arith)) (all-of f (suc i) n (λ k a b. h k (omega arith) (omega arith)))
+
+in-arc : (q t c : ℕ) → ArcIn q t c → arcRight q t c ≡ true
+unfolding arcRight
+in-arc q t c h =
+    ⊎-elim (λ x. rw (eq-eqb t noTarget (x .0), eq-eqb c 0 (x .1))) (λ x. rw (lt-ltb t q (x .0), le-leb c mostCost (x .1)) (or-true (eqb t noTarget && eqb c 0))) h
+
+pub lawful-right : (r : Rules) → Lawful r → tablesRight (r .arcs .states) (r .arcs .values) (r .arcs .targets) (r .arcs .costs) (r .accepting) ≡ true
+unfolding tablesRight tablesFrom
+lawful-right r w =
+    rw (all-of (λ k. arcRight (r .arcs .states) (getD (r .arcs .targets) k 0) (getD (r .arcs .costs) k 0)) 0 (r .arcs .states * r .arcs .values)
+    (λ k a b. in-arc _ _ _ (w .entry k (omega arith))))
+    (lt-ltb _ _ (w .bits))
+
+module _ (r : Rules) (w : Lawful r) where
+  cost-most : (q v : ℕ) → q < r .arcs .states → v < r .arcs .values → cost (r .arcs) q v ≤ mostCost
+  cost-most q v h k = ⊎-elim (λ x. omega arith) (λ x. x .1) (w .entry (q * r .arcs .values + v) (digits-lt h k))
+
+  -- the running cost of an accepted roster after i steps
+  pub running-most : (i q c : ℕ) (xs : List ℕ) → q < r .arcs .states → Below (r .arcs .values) xs → accepted r q xs ≡ true
+      → total (r .arcs) q c (take i xs) ≤ c + i * mostCost
+  running-most zero q c xs h b a = omega arith
+  running-most (suc i) q c [] h b a = omega arith
+  running-most (suc i) q c (v ∷ xs) h b a =
+      let p = both (hasArc (r .arcs) q v) _ a in
+      let k : cost (r .arcs) q v ≤ mostCost = cost-most q v h (b .0) in
+      omega (arith, running-most i (target (r .arcs) q v) (c + cost (r .arcs) q v) xs (ltb-true _ _ (p .0)) (b .1) (p .1))
+
+  -- NONE OF 366 PLACES PASSES 366,000: neither at a place nor in all
+  pub running-top : (i q : ℕ) (xs : List ℕ) → i ≤ mostPlaces → q < r .arcs .states → Below (r .arcs .values) xs → accepted r q xs ≡ true
+      → total (r .arcs) q 0 (take i xs) ≤ top
+  unfolding top
+  running-top i q xs l h b a = omega (arith, running-most i q 0 xs h b a)
+
+  pub roster-top : (q : ℕ) (xs : List ℕ) → length xs ≤ mostPlaces → q < r .arcs .states → Below (r .arcs .values) xs → accepted r q xs ≡ true
+      → total (r .arcs) q 0 xs ≤ top
+  roster-top q xs l h b a = rw (take-length xs) at (running-top (length xs) q xs l h b a)
