@@ -1,6 +1,5 @@
 // The ten slices, kept one behind the other in one memory of 32-bit cells, so that a script's lines treat them alike.
 ghost use Prim.Native.Nat.{_≤_};
-ghost use Rattle.io.specs.Counts.{Counts};
 use crate::script::number_at;
 
 pub(crate) const TARGETS: usize = 0;
@@ -162,41 +161,50 @@ pub(crate) fn lent(lengths: &[usize], slice: usize, room: usize) -> usize
     room
 }
 
-// What a slice holds, as far as its length goes, taken into entries of each width; gives the length.
-pub(crate) fn take_8(cells: &[u32], lengths: &[usize], slice: usize, entries: &mut [u8]) -> usize
-    ensures { λ r. ⌜ Counts r (now (entries .exit)) ⌝ }
-{
+// What a slice holds, as far as its length goes, taken into entries of each width.
+pub(crate) fn take_8<'a>(
+    cells: &[u32],
+    lengths: &[usize],
+    slice: usize,
+    entries: &'a mut [u8],
+) -> &'a mut [u8] {
     let count = lent(lengths, slice, entries.len());
     let mut k: usize = 0;
     while k < count {
         entries[k] = (entry(cells, slice, k) % 256) as u8;
         k += 1;
     }
-    count
+    &mut entries[..count]
 }
 
-pub(crate) fn take_16(cells: &[u32], lengths: &[usize], slice: usize, entries: &mut [u16]) -> usize
-    ensures { λ r. ⌜ Counts r (now (entries .exit)) ⌝ }
-{
+pub(crate) fn take_16<'a>(
+    cells: &[u32],
+    lengths: &[usize],
+    slice: usize,
+    entries: &'a mut [u16],
+) -> &'a mut [u16] {
     let count = lent(lengths, slice, entries.len());
     let mut k: usize = 0;
     while k < count {
         entries[k] = (entry(cells, slice, k) % 65536) as u16;
         k += 1;
     }
-    count
+    &mut entries[..count]
 }
 
-pub(crate) fn take_32(cells: &[u32], lengths: &[usize], slice: usize, entries: &mut [u32]) -> usize
-    ensures { λ r. ⌜ Counts r (now (entries .exit)) ⌝ }
-{
+pub(crate) fn take_32<'a>(
+    cells: &[u32],
+    lengths: &[usize],
+    slice: usize,
+    entries: &'a mut [u32],
+) -> &'a mut [u32] {
     let count = lent(lengths, slice, entries.len());
     let mut k: usize = 0;
     while k < count {
         entries[k] = entry(cells, slice, k);
         k += 1;
     }
-    count
+    &mut entries[..count]
 }
 
 // The entries put back.

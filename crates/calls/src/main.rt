@@ -6,12 +6,13 @@ ghost use lib.ListN.{length};
 
 mod call;
 mod cells;
-mod make;
+mod plan_calls;
 mod script;
+mod session_calls;
+mod sheet_calls;
 mod tell;
 
-use crate::call::call_of;
-use crate::call::carry_out;
+use crate::call::call_line;
 use crate::cells::fill;
 use crate::cells::give_8;
 use crate::cells::put;
@@ -55,23 +56,24 @@ fn three_at(line: &[u8], at: usize) -> Three {
 
 // A line that names a slice; says whether it is one.
 fn slice_line(line: &[u8], lengths: &mut [usize], cells: &mut [u32]) -> bool {
+    let word_end = field_end(line, 0);
+    let slice = slice_at(line, word_end);
+    let name_end = field_end(line, word_end);
+    let run = three_at(line, name_end);
     if begins(line, b"length\t") {
-        let count = number_at(line, field_end(line, 6));
-        set_length(lengths, slice_at(line, 6), count.value as usize);
+        set_length(lengths, slice, run.0);
         return true;
     }
     if begins(line, b"put\t") {
-        put(cells, slice_at(line, 3), line, field_end(line, 3));
+        put(cells, slice, line, name_end);
         return true;
     }
     if begins(line, b"fill\t") {
-        let run = three_at(line, field_end(line, 4));
-        fill(cells, slice_at(line, 4), run.0, run.1, run.2);
+        fill(cells, slice, run.0, run.1, run.2);
         return true;
     }
     if begins(line, b"show\t") {
-        let run = three_at(line, field_end(line, 4));
-        show(cells, lengths, slice_at(line, 4), run.0, run.1);
+        show(cells, lengths, slice, run.0, run.1);
         return true;
     }
     false
@@ -89,7 +91,7 @@ fn line_out(line: &[u8], numbers: &mut [u64], lengths: &mut [usize], cells: &mut
     if slice_line(line, lengths, cells) {
         return;
     }
-    carry_out(call_of(line), numbers, lengths, cells);
+    call_line(line, numbers, lengths, cells);
 }
 
 // Where so many bytes from a place on end, as far as there are so many.

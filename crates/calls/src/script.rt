@@ -1,4 +1,6 @@
 // Reading a script's line: a field begins with a tab.
+ghost use Prim.Native.Nat.{_≤_};
+ghost use lib.ListN.{length};
 use crate::cells;
 
 // A field's number, and where the field ends.
@@ -38,7 +40,9 @@ pub(crate) fn number_at(line: &[u8], at: usize) -> Number {
 }
 
 // Where the field that begins at a place ends.
-pub(crate) fn field_end(line: &[u8], at: usize) -> usize {
+pub(crate) fn field_end(line: &[u8], at: usize) -> usize
+    ensures { λ r. ⌜ (at ≤ length (now (line .entry)) → r ≤ length (now (line .entry))) ⌝ }
+{
     let mut end = at;
     while end < line.len() {
         let byte = line[end];

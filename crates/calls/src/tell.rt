@@ -1,7 +1,9 @@
 // What is printed: numbers after tabs, and each slice that a call has changed.
 use crate::cells;
 use crate::cells::entry;
+use crate::script::field_end;
 use libc::STDOUT_FILENO;
+use rules::Answer;
 
 // The content of a slice of at most so many entries is printed as it is.
 const SHORT: usize = 16;
@@ -19,6 +21,16 @@ pub(crate) fn tell_word(word: &[u8]) {
 pub(crate) fn tell_number(number: u64) {
     tell_word(b"\t");
     io::print_decimal(STDOUT_FILENO, number);
+}
+
+pub(crate) fn tell_answer(answer: Answer) {
+    tell_number(answer.number() as u64);
+}
+
+// The field that begins a line.
+pub(crate) fn tell_field(line: &[u8]) {
+    let end = field_end(line, 0);
+    tell_word(&line[..end]);
 }
 
 // The checksum with one more entry.

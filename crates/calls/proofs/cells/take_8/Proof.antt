@@ -1,8 +1,8 @@
 use native.Mathlib.Omega.{arith}
-use mathlib.Core.Path.{_≡_, refl}
+use mathlib.Core.Path.{_≡_, refl, sym}
 use lib.ListN.{length}
 use Prim.Native.Nat.{_-_}
-use Rattle.io.proofs.Counting.{counts}
+use lib.Seq.{length-take-le}
 use borrow.Author.Needs.{needs}
 use Rattle.calls.proofs.cells.take_8.Statement.{statement}
 use Rattle.calls.proofs.cells.take_8.Tie as tie
@@ -37,11 +37,11 @@ loop-less c = search needs
 loop-again : tie.Need-loop-again Inv-loop μ-loop
 loop-again c = search needs
 
-same-length : tie.Need-same-length Inv-loop μ-loop
-same-length c = search needs
+slice-aggregate-result : tie.Need-slice-aggregate-result Inv-loop μ-loop
+slice-aggregate-result c = sym (length-take-le _ _ (omega (arith, c .before .before .loop .inv)))
 
 returns : tie.Need-returns Inv-loop μ-loop
-returns c = counts _ _ (omega (arith, c .before .loop .inv))
+returns c = search needs
 
 pub take-8-spec : {M : Type 1} → statement M
 take-8-spec =
@@ -57,5 +57,5 @@ take-8-spec =
     add-k
     loop-less
     loop-again
-    same-length
+    slice-aggregate-result
     returns)

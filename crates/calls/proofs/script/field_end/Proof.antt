@@ -5,7 +5,7 @@ use Rattle.calls.proofs.script.field_end.Statement.{statement}
 use Rattle.calls.proofs.script.field_end.Tie as tie
 
 abbrev Inv-loop : tie.InvT-loop
-Inv-loop line at end₀ end = at ≤ end
+Inv-loop line at end₀ end = (at ≤ end) × (at ≤ length line → end ≤ length line)
 
 abbrev μ-loop : tie.MeasureT-loop
 μ-loop line at end₀ end = length line - end
