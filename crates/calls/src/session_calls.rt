@@ -19,6 +19,7 @@ enum SessionCall {
     Other,
 }
 
+// Which of them a line asks for.
 fn call_of(line: &[u8]) -> SessionCall {
     if begins(line, b"open\n") {
         return SessionCall::Open;
@@ -163,8 +164,8 @@ fn make(
     }
 }
 
-// If a line asks for one of these calls, makes it with the slices as the cells hold them, puts back what it may have written, and says that
-// it did.
+// Makes the call that a line asks for, with the slices as the cells hold them, and puts back what it may have written; says whether the line
+// asks for one of these calls.
 pub(crate) fn carry_out(
     line: &[u8],
     numbers: Numbers,

@@ -17,6 +17,7 @@ enum SheetCall {
     Other,
 }
 
+// Which of them a line asks for.
 fn call_of(line: &[u8]) -> SheetCall {
     if begins(line, b"read\n") {
         return SheetCall::Read;
@@ -67,8 +68,8 @@ fn make(
     }
 }
 
-// If a line asks for one of these calls, makes it with the slices as the cells hold them, puts back what it may have written, and says that
-// it did.
+// Makes the call that a line asks for, with the slices as the cells hold them, and puts back what it may have written; says whether the line
+// asks for one of these calls.
 pub(crate) fn carry_out(
     line: &[u8],
     numbers: Numbers,
