@@ -18,22 +18,26 @@ enum PlanCall {
     Filter,
     First(usize, u8),
     Report,
+}
+
+// What a line asks for: one of these calls, or something else.
+enum Asks {
+    Call(PlanCall),
     Other,
 }
 
-// Which of them a line asks for.
-fn call_of(line: &[u8]) -> PlanCall {
+fn asked_by(line: &[u8]) -> Asks {
     if begins(line, b"filter\n") {
-        return PlanCall::Filter;
+        return Asks::Call(PlanCall::Filter);
     }
     if begins(line, b"first\t") {
         let asked = asked_at(line, 5);
-        return PlanCall::First(asked.place, (asked.amount % 256) as u8);
+        return Asks::Call(PlanCall::First(asked.place, (asked.amount % 256) as u8));
     }
     if begins(line, b"report\n") {
-        return PlanCall::Report;
+        return Asks::Call(PlanCall::Report);
     }
-    PlanCall::Other
+    Asks::Other
 }
 
 fn filter(
@@ -129,7 +133,6 @@ fn make(
             work,
         ),
         PlanCall::Report => report(numbers, targets, costs, roster),
-        PlanCall::Other => {}
     }
 }
 
@@ -141,10 +144,9 @@ pub(crate) fn carry_out(
     lengths: &[usize],
     cells: &mut [u32],
 ) -> bool {
-    let call = call_of(line);
-    if let PlanCall::Other = call {
+    let Asks::Call(call) = asked_by(line) else {
         return false;
-    }
+    };
     tell_field(line);
     let mut target_room = [0u8; cells::TABLE_ROOM];
     let mut cost_room = [0u16; cells::TABLE_ROOM];

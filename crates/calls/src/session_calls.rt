@@ -8,6 +8,7 @@ use crate::cells::take_16;
 use crate::cells::take_32;
 use crate::tell::tell_answer;
 use crate::tell::tell_field;
+use rules::Answer;
 use text::bytes::begins;
 
 enum SessionCall {
@@ -16,124 +17,33 @@ enum SessionCall {
     Limit(usize, u32),
     Mark,
     Back,
+}
+
+// What a line asks for: one of these calls, or something else.
+enum Asks {
+    Call(SessionCall),
     Other,
 }
 
-// Which of them a line asks for.
-fn call_of(line: &[u8]) -> SessionCall {
+fn asked_by(line: &[u8]) -> Asks {
     if begins(line, b"open\n") {
-        return SessionCall::Open;
+        return Asks::Call(SessionCall::Open);
     }
     if begins(line, b"keep\t") {
         let asked = asked_at(line, 4);
-        return SessionCall::Keep(asked.place, (asked.amount % 65536) as u16);
+        return Asks::Call(SessionCall::Keep(asked.place, (asked.amount % 65536) as u16));
     }
     if begins(line, b"limit\t") {
         let asked = asked_at(line, 5);
-        return SessionCall::Limit(asked.place, (asked.amount % 4294967296) as u32);
+        return Asks::Call(SessionCall::Limit(asked.place, (asked.amount % 4294967296) as u32));
     }
     if begins(line, b"mark\n") {
-        return SessionCall::Mark;
+        return Asks::Call(SessionCall::Mark);
     }
     if begins(line, b"back\n") {
-        return SessionCall::Back;
+        return Asks::Call(SessionCall::Back);
     }
-    SessionCall::Other
-}
-
-fn open(
-    numbers: Numbers,
-    targets: &[u8],
-    costs: &[u16],
-    masks: &[u16],
-    limits: &[u32],
-    memory: &mut [u32],
-    work: &mut [u32],
-) {
-    let size = numbers.size;
-    tell_answer(session::open(
-        numbers.places,
-        size,
-        targets,
-        costs,
-        numbers.accepting,
-        masks,
-        limits,
-        memory,
-        work,
-    ));
-}
-
-fn keep(
-    numbers: Numbers,
-    targets: &[u8],
-    costs: &[u16],
-    place: usize,
-    mask: u16,
-    memory: &mut [u32],
-    work: &mut [u32],
-) {
-    let size = numbers.size;
-    tell_answer(session::keep(
-        numbers.places,
-        size,
-        targets,
-        costs,
-        numbers.accepting,
-        place,
-        mask,
-        memory,
-        work,
-    ));
-}
-
-fn limit(
-    numbers: Numbers,
-    targets: &[u8],
-    costs: &[u16],
-    place: usize,
-    cost: u32,
-    memory: &mut [u32],
-    work: &mut [u32],
-) {
-    let size = numbers.size;
-    tell_answer(session::limit(
-        numbers.places,
-        size,
-        targets,
-        costs,
-        numbers.accepting,
-        place,
-        cost,
-        memory,
-        work,
-    ));
-}
-
-fn mark(numbers: Numbers, targets: &[u8], costs: &[u16], memory: &mut [u32], work: &mut [u32]) {
-    let size = numbers.size;
-    tell_answer(session::mark(
-        numbers.places,
-        size,
-        targets,
-        costs,
-        numbers.accepting,
-        memory,
-        work,
-    ));
-}
-
-fn back(numbers: Numbers, targets: &[u8], costs: &[u16], memory: &mut [u32], work: &mut [u32]) {
-    let size = numbers.size;
-    tell_answer(session::back(
-        numbers.places,
-        size,
-        targets,
-        costs,
-        numbers.accepting,
-        memory,
-        work,
-    ));
+    Asks::Other
 }
 
 fn make(
@@ -145,22 +55,30 @@ fn make(
     limits: &[u32],
     memory: &mut [u32],
     work: &mut [u32],
-) {
+) -> Answer {
+    let n = numbers.places;
+    let size = numbers.size;
+    let accepting = numbers.accepting;
     match call {
-        SessionCall::Open => open(numbers, targets, costs, masks, limits, memory, work),
-        SessionCall::Keep(place, mask) => keep(numbers, targets, costs, place, mask, memory, work),
-        SessionCall::Limit(place, cost) => limit(
-            numbers,
+        SessionCall::Open => session::open(
+            n,
+            size,
             targets,
             costs,
-            place,
-            cost,
+            accepting,
+            masks,
+            limits,
             memory,
             work,
         ),
-        SessionCall::Mark => mark(numbers, targets, costs, memory, work),
-        SessionCall::Back => back(numbers, targets, costs, memory, work),
-        SessionCall::Other => {}
+        SessionCall::Keep(at, mask) => {
+            session::keep(n, size, targets, costs, accepting, at, mask, memory, work)
+        }
+        SessionCall::Limit(at, cost) => {
+            session::limit(n, size, targets, costs, accepting, at, cost, memory, work)
+        }
+        SessionCall::Mark => session::mark(n, size, targets, costs, accepting, memory, work),
+        SessionCall::Back => session::back(n, size, targets, costs, accepting, memory, work),
     }
 }
 
@@ -172,10 +90,9 @@ pub(crate) fn carry_out(
     lengths: &[usize],
     cells: &mut [u32],
 ) -> bool {
-    let call = call_of(line);
-    if let SessionCall::Other = call {
+    let Asks::Call(call) = asked_by(line) else {
         return false;
-    }
+    };
     tell_field(line);
     let mut target_room = [0u8; cells::TABLE_ROOM];
     let mut cost_room = [0u16; cells::TABLE_ROOM];
@@ -190,7 +107,8 @@ pub(crate) fn carry_out(
     let limits = take_32(held, lengths, cells::LIMITS, &mut limit_room);
     let memory = take_32(held, lengths, cells::SESSION, &mut memory_room);
     let work = take_32(held, lengths, cells::WORK, &mut work_room);
-    make(call, numbers, targets, costs, masks, limits, memory, work);
+    let answer = make(call, numbers, targets, costs, masks, limits, memory, work);
+    tell_answer(answer);
     give_32(cells, lengths, cells::SESSION, memory);
     give_32(cells, lengths, cells::WORK, work);
     true

@@ -14,21 +14,25 @@ enum SheetCall {
     Read,
     Write,
     Job,
+}
+
+// What a line asks for: one of these calls, or something else.
+enum Asks {
+    Call(SheetCall),
     Other,
 }
 
-// Which of them a line asks for.
-fn call_of(line: &[u8]) -> SheetCall {
+fn asked_by(line: &[u8]) -> Asks {
     if begins(line, b"read\n") {
-        return SheetCall::Read;
+        return Asks::Call(SheetCall::Read);
     }
     if begins(line, b"write\n") {
-        return SheetCall::Write;
+        return Asks::Call(SheetCall::Write);
     }
     if begins(line, b"job\n") {
-        return SheetCall::Job;
+        return Asks::Call(SheetCall::Job);
     }
-    SheetCall::Other
+    Asks::Other
 }
 
 fn read(input: &[u8], targets: &mut [u8], costs: &mut [u16]) {
@@ -64,7 +68,6 @@ fn make(
         SheetCall::Read => read(input, targets, costs),
         SheetCall::Write => write(numbers, targets, costs, output),
         SheetCall::Job => tell_number(job::job(input, output) as u64),
-        SheetCall::Other => {}
     }
 }
 
@@ -76,10 +79,9 @@ pub(crate) fn carry_out(
     lengths: &[usize],
     cells: &mut [u32],
 ) -> bool {
-    let call = call_of(line);
-    if let SheetCall::Other = call {
+    let Asks::Call(call) = asked_by(line) else {
         return false;
-    }
+    };
     tell_field(line);
     let mut target_room = [0u8; cells::TABLE_ROOM];
     let mut cost_room = [0u16; cells::TABLE_ROOM];
