@@ -50,7 +50,7 @@ fn filter(
     work: &mut [u32],
 ) {
     let size = numbers.size;
-    let told = filter::filter(
+    let verdict = filter::filter(
         numbers.places,
         size,
         targets,
@@ -61,9 +61,9 @@ fn filter(
         kept,
         work,
     );
-    let answer = told.answer;
+    let answer = verdict.answer;
     tell_answer(answer);
-    tell_number(told.least as u64);
+    tell_number(verdict.least as u64);
 }
 
 fn first(
@@ -95,7 +95,7 @@ fn first(
 
 fn report(numbers: Numbers, targets: &[u8], costs: &[u16], roster: &[u8]) {
     let size = numbers.size;
-    let told = rules::prefix_report(
+    let reported = rules::prefix_report(
         numbers.places,
         size,
         targets,
@@ -103,9 +103,9 @@ fn report(numbers: Numbers, targets: &[u8], costs: &[u16], roster: &[u8]) {
         numbers.accepting,
         roster,
     );
-    let answer = told.answer;
+    let answer = reported.answer;
     tell_answer(answer);
-    tell_number(told.report as u64);
+    tell_number(reported.report as u64);
 }
 
 fn make(

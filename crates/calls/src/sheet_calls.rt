@@ -36,24 +36,24 @@ fn asked_by(line: &[u8]) -> Asks {
 }
 
 fn read(input: &[u8], targets: &mut [u8], costs: &mut [u16]) {
-    let told = sheet::read_sheet(input, targets, costs);
-    let size = told.size;
+    let reading = sheet::read_sheet(input, targets, costs);
+    let size = reading.size;
     let start = size.start;
-    let answer = told.answer;
+    let answer = reading.answer;
     tell_answer(answer);
-    tell_number(told.line as u64);
+    tell_number(reading.line as u64);
     tell_number(size.states as u64);
     tell_number(size.values as u64);
     tell_number(start.0 as u64);
-    tell_number(told.accepting);
+    tell_number(reading.accepting);
 }
 
 fn write(numbers: Numbers, targets: &[u8], costs: &[u16], output: &mut [u8]) {
     let size = numbers.size;
-    let told = scribe::write_sheet(size, targets, costs, numbers.accepting, output);
-    let answer = told.answer;
+    let written = scribe::write_sheet(size, targets, costs, numbers.accepting, output);
+    let answer = written.answer;
     tell_answer(answer);
-    tell_number(told.length as u64);
+    tell_number(written.length as u64);
 }
 
 fn make(

@@ -57,12 +57,12 @@ fn sum_of(cells: &[u32], slice: usize, length: usize) -> Sum {
 pub(crate) fn sum_all(cells: &[u32], lengths: &[usize], sums: &mut [u32]) {
     let mut slice: usize = 0;
     while slice < sums.len() {
-        let told = sum_of(
+        let summed = sum_of(
             cells,
             slice,
             cells::lent(lengths, slice, cells::room_of(slice)),
         );
-        sums[slice] = told.sum;
+        sums[slice] = summed.sum;
         slice += 1;
     }
 }
@@ -94,18 +94,18 @@ pub(crate) fn tell_entries(cells: &[u32], slice: usize, first: usize, end: usize
 
 // A slice's name and content, if it has changed.
 fn tell_change(cells: &[u32], slice: usize, length: usize, before: u32) {
-    let told = sum_of(cells, slice, length);
-    if told.sum == before {
+    let summed = sum_of(cells, slice, length);
+    if summed.sum == before {
         return;
     }
     tell_name(slice);
     if length <= SHORT {
         tell_entries(cells, slice, 0, length);
-    } else if told.zeros {
+    } else if summed.zeros {
         tell_word(b"\tzeros");
     } else {
         tell_word(b"\tsum");
-        tell_number(told.sum as u64);
+        tell_number(summed.sum as u64);
     }
 }
 

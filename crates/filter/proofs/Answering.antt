@@ -7,14 +7,14 @@ use native.Mathlib.Omega.{arith}
 use lib.Dec.{eqb, ltb}
 use lib.ListN.{length}
 use borrow.Author.Tests.{eqb-true, ltb-true}
-use Rattle.rules.specs.Bounds.{workSize, top}
-use Rattle.rules.specs.Answers.{Check, check, decided, zeros, swept}
+use Rattle.meaning.specs.Meaning.{Rules, rulesOf, Verdict, verdictOf, Place, places, rosters, first}
+use Rattle.meaning.specs.Bounds.{workSize, top}
 use Rattle.rules.specs.Checks.{handed, sizesRight, tablesLong, tablesRight, rulesRight, masksRight}
-use Rattle.rules.specs.Meaning.{Rules, rulesOf, Told, told, Place, places, rosters, first}
+use Rattle.rules.specs.Answers.{Check, check, decided, zeros, workAfter}
 use Rattle.rules.proofs.Checks.{both, and-fails, and-goes, size-of, sizes-of, long-tables, rules-tables, refuses, passes, is-done}
 use Rattle.filter.specs.Filter.{left, lengthsRight, passChecks, filterDone, filterOf}
 use Rattle.filter.specs.First.{Given, given, firstDone, firstOf}
-use Rattle.rooms.specs.Tables.{Ready}
+use Rattle.rooms.specs.Tables.{Sizes}
 use Rattle.filter.specs.Inner.{Filters, Answered, some, none, Finds}
 
 -- the lengths, one by one
@@ -68,7 +68,7 @@ module _ {A : Type 0} (refuse : ℕ → A) (done : A) (n q v s : ℕ) (t c : Lis
 -- what passed the checks is ready for the passes
 module _ (n q v s : ℕ) (t c ms ls work : List ℕ) (out : ℕ) (sizes : sizesRight n q v s ≡ true) (long : tablesLong t c ≡ true)
     (lengths : lengthsRight n (length ms) (length ls) out (length work) ≡ true) where
-  pub ready : Ready q v t c ms ls work
+  pub ready : Sizes q v t c ms ls work
   ready =
       let z = sizes-of n q v s sizes in
       let y = size-of q v s (z .size) in
@@ -104,53 +104,53 @@ answered-no x h = none h
 
 -- what the filter does is what the list of rosters tells
 pub filter-done : {r : Rules} {start least number low : ℕ} {ps : List Place} {was is out : List ℕ} → Filters r start 0 ps was is out least → Answered least number low
-    → left number low out is ≡ filterDone (told r start 0 ps) was
+    → left number low out is ≡ filterDone (verdictOf r start 0 ps) was
 unfolding filterDone
-filter-done {was = was} f (some h) = rw (f .cleared) (ap (λ (y : Told). left (y .answered) (y .cheapest) (y .masks) (zeros was)) (f .some h))
-filter-done {was = was} f (none h) = rw (f .cleared) (ap (λ (y : Told). left (y .answered) (y .cheapest) (y .masks) (zeros was)) (f .none h))
+filter-done {was = was} f (some h) = rw (f .cleared) (ap (λ (y : Verdict). left (y .answered) (y .cheapest) (y .masks) (zeros was)) (f .some h))
+filter-done {was = was} f (none h) = rw (f .cleared) (ap (λ (y : Verdict). left (y .answered) (y .cheapest) (y .masks) (zeros was)) (f .none h))
 
 -- the returns of the filter
 module _ (n q v s a : ℕ) (t c ms ls ks work : List ℕ) {x y : ℕ} where
   pub filter-size : x ≡ 1 → y ≡ 0 → sizesRight n q v s ≡ false → left x y ks work ≡ filterOf (handed n q v s t c a) ms ls ks work
   unfolding filterOf
-  filter-size d e f = rw (d, e) (wrong-size (λ n. left n 0 ks (swept n work)) (filterDone (told (rulesOf q v t c a) s 0 (places ms ls)) work) n q v s t c a ms ls (length ks) (length work) [] f)
+  filter-size d e f = rw (d, e) (wrong-size (λ n. left n 0 ks (workAfter n work)) (filterDone (verdictOf (rulesOf q v t c a) s 0 (places ms ls)) work) n q v s t c a ms ls (length ks) (length work) [] f)
 
   module _ (sizes : sizesRight n q v s ≡ true) where
     pub filter-tables-long : x ≡ 2 → y ≡ 0 → tablesLong t c ≡ false → left x y ks work ≡ filterOf (handed n q v s t c a) ms ls ks work
     unfolding filterOf
     filter-tables-long d e f =
-        rw (d, e) (wrong-tables-long (λ n. left n 0 ks (swept n work)) (filterDone (told (rulesOf q v t c a) s 0 (places ms ls)) work) n q v s t c a ms ls (length ks) (length work) [] sizes f)
+        rw (d, e) (wrong-tables-long (λ n. left n 0 ks (workAfter n work)) (filterDone (verdictOf (rulesOf q v t c a) s 0 (places ms ls)) work) n q v s t c a ms ls (length ks) (length work) [] sizes f)
 
     module _ (long : tablesLong t c ≡ true) where
       pub filter-lengths : x ≡ 2 → y ≡ 0 → lengthsRight n (length ms) (length ls) (length ks) (length work) ≡ false
           → left x y ks work ≡ filterOf (handed n q v s t c a) ms ls ks work
       unfolding filterOf
       filter-lengths d e f =
-          rw (d, e) (wrong-lengths (λ n. left n 0 ks (swept n work)) (filterDone (told (rulesOf q v t c a) s 0 (places ms ls)) work) n q v s t c a ms ls (length ks) (length work) [] sizes long f)
+          rw (d, e) (wrong-lengths (λ n. left n 0 ks (workAfter n work)) (filterDone (verdictOf (rulesOf q v t c a) s 0 (places ms ls)) work) n q v s t c a ms ls (length ks) (length work) [] sizes long f)
 
       module _ (lengths : lengthsRight n (length ms) (length ls) (length ks) (length work) ≡ true) {is : List ℕ} where
         pub filter-tables : x ≡ 3 → y ≡ 0 → is ≡ zeros work → rulesRight q v s t c a ≡ false → left x y ks is ≡ filterOf (handed n q v s t c a) ms ls ks work
         unfolding filterOf
         filter-tables d e k f =
-            rw (d, e, k) (wrong-tables (λ n. left n 0 ks (swept n work)) (filterDone (told (rulesOf q v t c a) s 0 (places ms ls)) work) n q v s t c a ms ls (length ks) (length work) [] sizes long lengths f)
+            rw (d, e, k) (wrong-tables (λ n. left n 0 ks (workAfter n work)) (filterDone (verdictOf (rulesOf q v t c a) s 0 (places ms ls)) work) n q v s t c a ms ls (length ks) (length work) [] sizes long lengths f)
 
         module _ (rules : rulesRight q v s t c a ≡ true) where
           pub filter-mask : x ≡ 4 → y ≡ 0 → is ≡ zeros work → masksRight v ms ≡ false → left x y ks is ≡ filterOf (handed n q v s t c a) ms ls ks work
           unfolding filterOf
           filter-mask d e k f =
-              rw (d, e, k) (wrong-mask (λ n. left n 0 ks (swept n work)) (filterDone (told (rulesOf q v t c a) s 0 (places ms ls)) work) n q v s t c a ms ls (length ks) (length work) [] sizes long lengths rules f)
+              rw (d, e, k) (wrong-mask (λ n. left n 0 ks (workAfter n work)) (filterDone (verdictOf (rulesOf q v t c a) s 0 (places ms ls)) work) n q v s t c a ms ls (length ks) (length work) [] sizes long lengths rules f)
 
           pub filter-tells : {out : List ℕ} {least : ℕ} → masksRight v ms ≡ true → Filters (rulesOf q v t c a) s 0 (places ms ls) work is out least → Answered least x y
               → left x y out is ≡ filterOf (handed n q v s t c a) ms ls ks work
           unfolding filterOf
           filter-tells f k w =
-              all-right (λ n. left n 0 ks (swept n work)) (filterDone (told (rulesOf q v t c a) s 0 (places ms ls)) work) n q v s t c a ms ls (length ks) (length work) [] sizes long lengths rules f
+              all-right (λ n. left n 0 ks (workAfter n work)) (filterDone (verdictOf (rulesOf q v t c a) s 0 (places ms ls)) work) n q v s t c a ms ls (length ks) (length work) [] sizes long lengths rules f
               (filter-done k w ∙ is-done _ _)
 
 -- the returns of the first roster
 module _ (n q v s a : ℕ) (t c ms ls : List ℕ) (i u : ℕ) (roster work : List ℕ) where
   refuse : ℕ → Given
-  refuse k = given k roster (swept k work)
+  refuse k = given k roster (workAfter k work)
 
   finish : Given
   finish = firstDone (first i u (rosters (rulesOf q v t c a) s 0 (places ms ls))) roster work

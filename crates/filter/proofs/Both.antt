@@ -5,15 +5,15 @@ use Prim.Native.Nat.{ℕ, _+_, _*_, _<_}
 use native.Mathlib.Omega.{arith}
 use native.Mathlib.Decide.{decLt}
 use lib.ListN.{length, getD, List·getD-eq-default}
-use Rattle.rules.specs.Bounds.{tableSize}
+use Rattle.meaning.specs.Meaning.{arcsOf, rulesOf, places}
+use Rattle.meaning.specs.Bounds.{tableSize}
 use Rattle.rules.specs.Answers.{zeros}
-use Rattle.rules.specs.Meaning.{arcsOf, rulesOf, places}
-use Rattle.rooms.specs.Tables.{Filled, turned, Net, Same, Frame, frame, layer, Layers, Loaded, Ready}
+use Rattle.rooms.specs.Tables.{Filled, Net, Same, Frame, frame, layer, Layers, Loaded, Sizes}
 use Rattle.reach.specs.Looks.{LowRows, Meant, Tells}
 use Rattle.filter.specs.Inner.{Filters}
 
 -- the sizes, with the tables turned
-pub ready-turned : {qs vs : ℕ} {t c ms ls work ts cs : List ℕ} → Ready qs vs t c ms ls work → length ts ≡ tableSize → length cs ≡ tableSize → Ready qs vs ts cs ms ls work
+pub ready-turned : {qs vs : ℕ} {t c ms ls work ts cs : List ℕ} → Sizes qs vs t c ms ls work → length ts ≡ tableSize → length cs ≡ tableSize → Sizes qs vs ts cs ms ls work
 ready-turned r h k = record {
   few-states = r .few-states;
   few-values = r .few-values;
@@ -26,8 +26,8 @@ ready-turned r h k = record {
 }
 
 -- and with the work table filled, for a pass that reads no limits
-pub ready-filled : {qs vs : ℕ} {t c ms ls work ts cs now : List ℕ} → Ready qs vs t c ms ls work → length ts ≡ tableSize → length cs ≡ tableSize → length now ≡ length work
-    → Ready qs vs ts cs ms ms now
+pub ready-filled : {qs vs : ℕ} {t c ms ls work ts cs now : List ℕ} → Sizes qs vs t c ms ls work → length ts ≡ tableSize → length cs ≡ tableSize → length now ≡ length work
+    → Sizes qs vs ts cs ms ms now
 ready-filled r h k e = record {
   few-states = r .few-states;
   few-values = r .few-values;

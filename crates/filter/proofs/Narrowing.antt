@@ -10,14 +10,13 @@ use lib.ListN.{length, getD, set, take, length-set}
 use lib.Seq.{ext-getD}
 use Rattle.kinds.specs.Bits.{width, bit, maskOf}
 use Rattle.kinds.proofs.Bits.{bit-mask, mask-lt, meet-mask}
+use Rattle.meaning.specs.Meaning.{Rules, arcsOf, rulesOf, places, rosters, has, first, Keep}
+use Rattle.meaning.proofs.Narrow.{meets, keep-meets, narrow}
+use Rattle.meaning.proofs.Members.{Below, roster-in, length-places}
+use Rattle.meaning.proofs.Decisions.{keep-stored}
+use Rattle.meaning.proofs.Lists.{those-same}
 use Rattle.rules.specs.Answers.{zeros}
-use Rattle.rules.specs.Lists.{those}
-use Rattle.rules.specs.Meaning.{Rules, arcsOf, rulesOf, places, rosters, has, first, Keep}
-use Rattle.rules.proofs.Lists.{those-same}
-use Rattle.rules.proofs.Members.{Below, roster-in, length-places}
-use Rattle.rules.proofs.Narrow.{meets, keep-meets, narrow}
-use Rattle.rules.proofs.Decisions.{keep-stored}
-use Rattle.rooms.specs.Tables.{Filled, Net, Same, frame, Layers, Ready}
+use Rattle.rooms.specs.Tables.{Filled, Net, Same, frame, Layers, Sizes}
 use Rattle.reach.specs.Looks.{Meant, Walks}
 use Rattle.filter.specs.Inner.{Finds}
 
@@ -61,7 +60,7 @@ pub alone-long : (ms : List ℕ) (i x : ℕ) {own : List ℕ} → own ≡ set ms
 alone-long ms i x e = ap length e ∙ length-set ms i x
 
 -- the sizes, with the narrowed masks
-pub ready-alone : {qs vs : ℕ} {t c ms ls work own : List ℕ} → Ready qs vs t c ms ls work → length own ≡ length ms → Ready qs vs t c own ls work
+pub ready-alone : {qs vs : ℕ} {t c ms ls work own : List ℕ} → Sizes qs vs t c ms ls work → length own ≡ length ms → Sizes qs vs t c own ls work
 ready-alone r e = record {
   few-states = r .few-states;
   few-values = r .few-values;
@@ -74,7 +73,7 @@ ready-alone r e = record {
 }
 
 -- what the walk finds is the first roster with the value there
-pub finds-is : {a : Net} {qs vs start spent i v accepting : ℕ} {t c ms ls own work mid is was out : List ℕ} {found : Bool} → Ready qs vs t c ms ls work → i < length ms → own ≡ alone ms i v
+pub finds-is : {a : Net} {qs vs start spent i v accepting : ℕ} {t c ms ls own work mid is was out : List ℕ} {found : Bool} → Sizes qs vs t c ms ls work → i < length ms → own ≡ alone ms i v
     → Same (arcsOf qs vs t c) vs a → Layers (frame a qs vs accepting) own ls 0 mid → Walks a qs vs start spent own mid was out found
     → length mid ≡ length work → is ≡ zeros mid
     → Finds (rosters (rulesOf qs vs t c accepting) start spent (places ms ls)) i v was out work is found

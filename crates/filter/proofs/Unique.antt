@@ -3,10 +3,10 @@ use mathlib.Core.Path.{_≡_, refl, sym, ap, ap₂, _∙_}
 use mathlib.Core.Bool.{true}
 use mathlib.Core.List.{List}
 use Prim.Native.Nat.{ℕ}
-use Rattle.rules.specs.Answers.{numberOf, order, inOrder}
 use Rattle.rules.specs.Checks.{Handed}
-use Rattle.rules.specs.declared.Answer.{Answer}
+use Rattle.rules.specs.Answers.{numberOf, order, inOrder}
 use Rattle.rules.proofs.Unique.{answer-one}
+use Rattle.rules.specs.declared.Answer.{Answer}
 use Rattle.filter.specs.Filter.{Left, left, filterChecks, filterOf}
 use Rattle.filter.specs.First.{Given, given, firstChecks, firstOf}
 use Rattle.filter.specs.declared.Filtered.{Filtered}

@@ -3,14 +3,14 @@ use mathlib.Core.Bool.{Bool, true, false}
 use mathlib.Core.List.{List, [], _∷_}
 use mathlib.Core.Path.{_≡_}
 use Prim.Native.Nat.{ℕ, _≤_, _<_}
-use Rattle.rules.specs.Bounds.{top}
+use Rattle.meaning.specs.Meaning.{Rules, Place, first, verdict, verdictOf}
+use Rattle.meaning.specs.Bounds.{top}
 use Rattle.rules.specs.Answers.{zeros}
-use Rattle.rules.specs.Meaning.{Rules, cost, Place, first, toldOf, told}
 
 -- what a whole filter gives: the masks and the least cost, one more than the top or above where no roster is allowed, and the work table cleared
 pub record Filters (r : Rules) (start spent : ℕ) (ps : List Place) (was is out : List ℕ) (least : ℕ) : Type 0 where
-  pub some : least ≤ top → toldOf 0 out least ≡ told r start spent ps
-  pub none : top < least → toldOf 11 out 0 ≡ told r start spent ps
+  pub some : least ≤ top → verdict 0 out least ≡ verdictOf r start spent ps
+  pub none : top < least → verdict 11 out 0 ≡ verdictOf r start spent ps
   pub cleared : is ≡ zeros was
 
 -- the answer to a least cost

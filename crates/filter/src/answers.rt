@@ -3,15 +3,15 @@ ghost use mathlib.Core.Path.{_≡_};
 ghost use mathlib.Core.Bool.{_&&_};
 ghost use lib.Dec.{ltb};
 ghost use Prim.Native.Nat.{_≤_, _<_};
-ghost use Rattle.rules.specs.Bounds.{mostPlaces, top};
+ghost use Rattle.meaning.specs.Bounds.{mostPlaces};
 ghost use Rattle.rules.specs.Answers.{numberOf};
 ghost use Rattle.filter.specs.Filter.{lengthsRight};
 ghost use Rattle.filter.specs.Inner.{Answered};
 use crate::Filtered;
 use kinds::Value;
-use rooms::backward::TOP;
 use rules::Answer;
 use rules::bounds;
+use rules::bounds::TOP;
 
 // Whether each lent slice has its length: else answer 2.
 pub(crate) fn lengths_right(
@@ -44,7 +44,7 @@ pub(crate) fn refused(answer: Answer) -> Filtered
 }
 
 // 0 with the least cost; 11 with 0, where it lies above the top.
-pub(crate) fn told(least: u32) -> Filtered
+pub(crate) fn verdict(least: u32) -> Filtered
     ensures { λ r. ⌜ Answered least (numberOf (r .answer)) (r .least) ⌝ }
 {
     if least <= TOP {

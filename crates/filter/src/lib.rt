@@ -1,7 +1,7 @@
 // The filter and the first roster.
 ghost use mathlib.Core.Path.{_≡_};
-ghost use Rattle.rules.specs.Answers.{numberOf};
 ghost use Rattle.rules.specs.Checks.{handed};
+ghost use Rattle.rules.specs.Answers.{numberOf};
 ghost use Rattle.filter.specs.Filter.{left, filterOf};
 ghost use Rattle.filter.specs.First.{given, firstOf};
 
@@ -65,7 +65,7 @@ pub fn filter(
         kept,
         work,
     );
-    answers::told(least)
+    answers::verdict(least)
 }
 
 // The first roster with a value at a place: each place takes the smallest value that still leaves a way to the end.

@@ -2,9 +2,9 @@
 ghost use mathlib.Core.Path.{_≡_};
 ghost use Prim.Native.Nat.{_≤_, _<_};
 ghost use lib.ListN.{length};
-ghost use Rattle.rules.specs.Bounds.{mostStates, mostValues, tableSize, top};
-ghost use Rattle.rules.specs.Meaning.{rulesOf, places, rosters};
-ghost use Rattle.rooms.specs.Tables.{Ready};
+ghost use Rattle.meaning.specs.Meaning.{rulesOf, places, rosters};
+ghost use Rattle.meaning.specs.Bounds.{mostStates, mostValues, tableSize, top};
+ghost use Rattle.rooms.specs.Tables.{Sizes};
 ghost use Rattle.filter.specs.Inner.{Filters, Finds};
 use crate::alone;
 use kinds::State;
@@ -40,7 +40,7 @@ pub(crate) fn filter_in(
     onward: &mut [u32],
     hints: &mut [u8],
 ) -> u32
-    requires { ⌜ Ready states values (now targets) (now costs) (now masks) (now limits) (now work) × (start .0 < states) × (spent ≤ top) × (length (now kept) ≡ length (now masks)) × (length (now to) ≡ tableSize) × (length (now fee) ≡ tableSize) × (length (now next) ≡ 256) × (length (now front) ≡ mostStates) × (length (now onward) ≡ 256) × (length (now hints) ≡ mostValues) ⌝ }
+    requires { ⌜ Sizes states values (now targets) (now costs) (now masks) (now limits) (now work) × (start .0 < states) × (spent ≤ top) × (length (now kept) ≡ length (now masks)) × (length (now to) ≡ tableSize) × (length (now fee) ≡ tableSize) × (length (now next) ≡ 256) × (length (now front) ≡ mostStates) × (length (now onward) ≡ 256) × (length (now hints) ≡ mostValues) ⌝ }
     ensures { λ r. ⌜ Filters (rulesOf states values (now (targets .entry)) (now (costs .entry)) accepting) (start .0) spent (places (now (masks .entry)) (now (limits .entry))) (now (work .entry)) (now (work .exit)) (now (kept .exit)) r ⌝ }
 {
     turn::turn(states, values, targets, costs, to, fee);
@@ -89,7 +89,7 @@ pub(crate) fn filter_from(
     kept: &mut [u16],
     work: &mut [u32],
 ) -> u32
-    requires { ⌜ Ready states values (now targets) (now costs) (now masks) (now limits) (now work) × (start .0 < states) × (spent ≤ top) × (length (now kept) ≡ length (now masks)) ⌝ }
+    requires { ⌜ Sizes states values (now targets) (now costs) (now masks) (now limits) (now work) × (start .0 < states) × (spent ≤ top) × (length (now kept) ≡ length (now masks)) ⌝ }
     ensures { λ r. ⌜ Filters (rulesOf states values (now (targets .entry)) (now (costs .entry)) accepting) (start .0) spent (places (now (masks .entry)) (now (limits .entry))) (now (work .entry)) (now (work .exit)) (now (kept .exit)) r ⌝ }
 {
     let mut to = [0u8; bounds::TABLE_SIZE];
@@ -139,7 +139,7 @@ pub(crate) fn first_in(
     fee: &mut [u16],
     next: &mut [u32],
 ) -> bool
-    requires { ⌜ Ready states values (now targets) (now costs) (now masks) (now limits) (now work) × (start .0 < states) × (spent ≤ top) × (length (now roster) ≡ length (now masks)) × (place < length (now masks)) × (length (now own) ≡ length (now masks)) × (length (now to) ≡ tableSize) × (length (now fee) ≡ tableSize) × (length (now next) ≡ 256) ⌝ }
+    requires { ⌜ Sizes states values (now targets) (now costs) (now masks) (now limits) (now work) × (start .0 < states) × (spent ≤ top) × (length (now roster) ≡ length (now masks)) × (place < length (now masks)) × (length (now own) ≡ length (now masks)) × (length (now to) ≡ tableSize) × (length (now fee) ≡ tableSize) × (length (now next) ≡ 256) ⌝ }
     ensures { λ r. ⌜ Finds (rosters (rulesOf states values (now (targets .entry)) (now (costs .entry)) accepting) (start .0) spent (places (now (masks .entry)) (now (limits .entry)))) place (value .0) (now (roster .entry)) (now (roster .exit)) (now (work .entry)) (now (work .exit)) r ⌝ }
 {
     alone::narrow(masks, place, value, own);
@@ -178,7 +178,7 @@ pub(crate) fn first_from(
     roster: &mut [u8],
     work: &mut [u32],
 ) -> bool
-    requires { ⌜ Ready states values (now targets) (now costs) (now masks) (now limits) (now work) × (start .0 < states) × (spent ≤ top) × (length (now roster) ≡ length (now masks)) × (place < length (now masks)) ⌝ }
+    requires { ⌜ Sizes states values (now targets) (now costs) (now masks) (now limits) (now work) × (start .0 < states) × (spent ≤ top) × (length (now roster) ≡ length (now masks)) × (place < length (now masks)) ⌝ }
     ensures { λ r. ⌜ Finds (rosters (rulesOf states values (now (targets .entry)) (now (costs .entry)) accepting) (start .0) spent (places (now (masks .entry)) (now (limits .entry)))) place (value .0) (now (roster .entry)) (now (roster .exit)) (now (work .entry)) (now (work .exit)) r ⌝ }
 {
     let count = masks.len();

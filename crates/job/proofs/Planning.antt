@@ -1,6 +1,6 @@
 -- A job carried out: what its lines leave in masks and limits, and what is printed then. Assumes nothing.
 use mathlib.Core.Path.{_≡_, refl, ap, sym, _∙_, subst}
-use mathlib.Core.Bool.{Bool, true}
+use mathlib.Core.Bool.{true}
 use mathlib.Core.List.{List, [], _∷_}
 use Prim.Native.Nat.{ℕ, zero, suc, _-_, _^_, _≤_}
 use native.Mathlib.Omega.{arith}
@@ -8,10 +8,10 @@ use lib.ListN.{length, take, drop, replicate, length-replicate}
 use lib.Seq.{length-take-le}
 use lib.Pow.{pow-pos}
 use borrow.Author.Tests.{lt-ltb}
-use Rattle.rules.specs.Bounds.{workSize, top}
-use Rattle.rules.specs.Lists.{all}
+use Rattle.meaning.specs.Meaning.{Rules, places, decides, verdictOf}
+use Rattle.meaning.specs.Lists.{all}
+use Rattle.meaning.specs.Bounds.{workSize, top}
 use Rattle.rules.specs.Checks.{sizeRight, sizesRight, rulesRight, masksRight}
-use Rattle.rules.specs.Meaning.{Rules, places, decides, told}
 use Rattle.rules.proofs.Checks.{both, Size, size-of, sizes-last}
 use Rattle.text.specs.Numbers.{readNumber}
 use Rattle.text.specs.Lines.{right, wrong, strip, onStrip, lines}
@@ -20,8 +20,8 @@ use Rattle.text.proofs.Decimals.{number-read}
 use Rattle.text.proofs.Judging.{onStrip-right, onField-right, close-right}
 use Rattle.text.specs.declared.lines.Fault.{Fault}
 use Rattle.text.specs.Inner.{LineAt}
-use Rattle.job.specs.Input.{mostDays, mostLines, daysWord, readDays, Job, days, wrongLine, readDecisions, readJob}
-use Rattle.job.specs.Output.{jobLine, toldText}
+use Rattle.job.specs.Input.{mostDays, mostLines, daysWord, readDays, days, wrongLine, readDecisions, readJob}
+use Rattle.job.specs.Output.{jobLine, verdictText}
 use Rattle.job.specs.Job.{doneText}
 use Rattle.job.specs.Inner.{daysView, Took}
 use Rattle.job.specs.declared.asks.Days.{Days}
@@ -65,11 +65,11 @@ module _ (r : Rules) (s n : ℕ) (L : List (List ℕ)) (ms ls ms2 ls2 : List ℕ
     took = subst (λ (x : Taken). Took (readDecisions (length ms) (r .arcs .values) 2 mostLines L) ms ls x ms2 ls2) e k
 
     -- all lines are taken: what the filter then tells is printed
-    pub carried-all : toldText (told r s 0 (places ms2 ls2)) ≡ doneText r s (readDecisions n (r .arcs .values) 2 mostLines L)
+    pub carried-all : verdictText (verdictOf r s 0 (places ms2 ls2)) ≡ doneText r s (readDecisions n (r .arcs .values) 2 mostLines L)
     unfolding doneText
     carried-all =
         let w = took in
-        ap (λ (ps : List _). toldText (told r s 0 ps)) (w .2 ∙ (ap (λ (xs : List ℕ). decides (places xs ls) (w .0)) full ∙ ap (λ (xs : List ℕ). decides (places (replicate n (2 ^ r .arcs .values - 1)) xs) (w .0)) tops))
+        ap (λ (ps : List _). verdictText (verdictOf r s 0 ps)) (w .2 ∙ (ap (λ (xs : List ℕ). decides (places xs ls) (w .0)) full ∙ ap (λ (xs : List ℕ). decides (places (replicate n (2 ^ r .arcs .values - 1)) xs) (w .0)) tops))
         ∙ ap (doneText r s) (sym (sym same ∙ (w .1 ∙ ap (λ (i : ℕ). days i (w .0)) (length-of n _ ms full))))
 
     -- and no mask has a bit at or above V

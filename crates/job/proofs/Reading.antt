@@ -1,15 +1,15 @@
 -- What is printed by what the reader says of the sheet. Assumes nothing.
 use mathlib.Core.Path.{_≡_, ap, sym, _∙_, subst}
-use mathlib.Core.Bool.{Bool, true, false}
+use mathlib.Core.Bool.{true, false}
 use mathlib.Core.List.{List}
 use Prim.Native.Nat.{ℕ, _-_, _<_, _≤_}
 use native.Mathlib.Omega.{arith}
 use lib.ListN.{length, take, drop, replicate, length-drop}
 use lib.Seq.{take-all}
 use borrow.Author.Tests.{eq-eqb, ne-eqb, lt-ltb, le-ltb}
-use Rattle.rules.specs.Bounds.{tableSize}
+use Rattle.meaning.specs.Meaning.{rulesOf}
+use Rattle.meaning.specs.Bounds.{tableSize}
 use Rattle.rules.specs.Checks.{rulesRight}
-use Rattle.rules.specs.Meaning.{rulesOf}
 use Rattle.text.specs.Lines.{lines}
 use Rattle.sheet.specs.Reading.{Outcome, readLeft, readOf}
 use Rattle.sheet.proofs.OneText.{one-text}

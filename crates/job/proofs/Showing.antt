@@ -8,19 +8,19 @@ use lib.Bits.{bitAnd, and-le-l}
 use lib.Dec.{ltb}
 use lib.ListN.{length}
 use borrow.Author.Tests.{eq-eqb, ne-eqb, lt-ltb, ltb-true}
-use Rattle.rules.specs.Bounds.{workSize}
-use Rattle.rules.specs.Lists.{all}
+use Rattle.meaning.specs.Meaning.{Place, places, Decision, Keep, Limit, change, decide, decides, Verdict, verdictOf}
+use Rattle.meaning.specs.Lists.{all}
+use Rattle.meaning.specs.Bounds.{workSize}
 use Rattle.rules.specs.Checks.{handed, sizeRight, sizesRight, tablesLong, rulesRight, masksRight}
-use Rattle.rules.specs.Meaning.{Place, places, Decision, Keep, Limit, change, decide, decides, Told, told}
 use Rattle.rules.proofs.Checks.{both, passes, is-done}
 use Rattle.filter.specs.Filter.{Left, left, lengthsRight, filterDone, filterOf}
 use Rattle.text.specs.Writing.{Wrote}
-use Rattle.job.specs.Output.{keptLines, leastLine, noneText, toldText}
+use Rattle.job.specs.Output.{keptLines, leastLine, noneText, verdictText}
 
 -- every check is passed
 pub passed : (n q v s : ℕ) (t c : List ℕ) (a : ℕ) (ms ls ks work : List ℕ) → sizesRight n q v s ≡ true → rulesRight q v s t c a ≡ true → masksRight v ms ≡ true
     → length ms ≡ n → length ls ≡ n → length ks ≡ n → length work ≡ workSize n
-    → filterOf (handed n q v s t c a) ms ls ks work ≡ filterDone (told (handed n q v s t c a .rules) s 0 (places ms ls)) work
+    → filterOf (handed n q v s t c a) ms ls ks work ≡ filterDone (verdictOf (handed n q v s t c a .rules) s 0 (places ms ls)) work
 unfolding filterOf rulesRight lengthsRight
 passed n q v s t c a ms ls ks work hs hr hm em el ek ew =
     let b = both (tablesLong t c) _ (both (sizeRight q v s) _ hr .1) in
@@ -28,17 +28,17 @@ passed n q v s t c a ms ls ks work hs hr hm em el ek ew =
     sym (passes _ _ _ _ _ hs (passes _ _ _ _ _ z (passes _ _ _ _ _ (b .1) (passes _ _ _ _ _ hm (is-done _ _)))))
 
 -- what is printed of it
-module _ (t : Told) (work : List ℕ) (a l : ℕ) (ks w : List ℕ) (e : left a l ks w ≡ filterDone t work) where
-  pub shows-kept : a ≡ 0 → keptLines 0 ks ++ leastLine l ≡ toldText t
-  unfolding toldText filterDone
+module _ (t : Verdict) (work : List ℕ) (a l : ℕ) (ks w : List ℕ) (e : left a l ks w ≡ filterDone t work) where
+  pub shows-kept : a ≡ 0 → keptLines 0 ks ++ leastLine l ≡ verdictText t
+  unfolding verdictText filterDone
   shows-kept h =
       let x : a ≡ t .answered = ap (λ (o : Left). o .answer) e in
       let y : l ≡ t .cheapest = ap (λ (o : Left). o .least) e in
       let z : ks ≡ t .masks = ap (λ (o : Left). o .kept) e in
       rw (eq-eqb (t .answered) 0 (sym x ∙ h), y, z)
 
-  pub shows-none : (a ≡ 0 → ⊥) → noneText ≡ toldText t
-  unfolding toldText filterDone
+  pub shows-none : (a ≡ 0 → ⊥) → noneText ≡ verdictText t
+  unfolding verdictText filterDone
   shows-none h =
       let x : a ≡ t .answered = ap (λ (o : Left). o .answer) e in
       rw (ne-eqb (t .answered) 0 (λ z. h (x ∙ z)))

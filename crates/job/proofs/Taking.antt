@@ -11,8 +11,8 @@ use lib.Bits.{bitAnd}
 use lib.Dec.{eqb}
 use lib.ListN.{length, getD, take, drop, set, drop-of-length-le}
 use lib.Seq.{drop-cons}
-use Rattle.rules.specs.Meaning.{Decision, Keep, Limit, places, decides}
-use Rattle.rules.proofs.Decisions.{keep-stored, limit-stored, decides-append}
+use Rattle.meaning.specs.Meaning.{Decision, Keep, Limit, places, decides}
+use Rattle.meaning.proofs.Decisions.{keep-stored, limit-stored, decides-append}
 use Rattle.text.specs.Bytes.{feed}
 use Rattle.text.specs.Lines.{right, wrong, onto, lines}
 use Rattle.text.specs.Inner.{LineAt}

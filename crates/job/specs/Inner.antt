@@ -4,7 +4,7 @@ use mathlib.Core.Bool.{Bool, true}
 use mathlib.Core.List.{List, [], _∷_}
 use Prim.Native.Nat.{ℕ, _≤_, _<_}
 use lib.ListN.{length, take, drop}
-use Rattle.rules.specs.Meaning.{Decision, Keep, Limit, places, decides}
+use Rattle.meaning.specs.Meaning.{Decision, Keep, Limit, places, decides}
 use Rattle.text.specs.Lines.{Judged, right, wrong}
 use Rattle.job.specs.Input.{before, parted, after, Job, days, wrongLine}
 use Rattle.job.specs.declared.asks.Days.{Days}

@@ -3,10 +3,10 @@ use mathlib.Core.Bool.{Bool, true, false, cond, _&&_}
 use mathlib.Core.List.{List, [], _∷_}
 use Prim.Native.Nat.{ℕ, zero, suc, _-_, _^_}
 use lib.Dec.{eqb}
-use Rattle.rules.specs.Meaning.{Decision, Keep, Limit}
+use Rattle.meaning.specs.Meaning.{Decision, Keep, Limit}
 use Rattle.text.specs.Bytes.{tab, feed}
 use Rattle.text.specs.Numbers.{readNumber, readField}
-use Rattle.text.specs.Lines.{Judged, right, wrong, strip, onStrip, onField, close}
+use Rattle.text.specs.Lines.{Judged, wrong, strip, onStrip, onField, close, onJudged}
 use Rattle.text.specs.declared.lines.Fault.the-variants.{Form}
 
 -- the sizes of the program
@@ -72,19 +72,15 @@ abbrev pub withDecision : Decision → Job → Job
 withDecision d (days n ds) = days n (d ∷ ds)
 withDecision d (wrongLine k) = wrongLine k
 
-abbrev pub onJudged : {A : Type 0} → Judged A → (A → Job) → Job → Job
-onJudged (right a) f j = f a
-onJudged (wrong x) f j = j
-
 -- the decisions, from line k on; a line more than there is room for is wrong
 unfoldable pub readDecisions : ℕ → ℕ → ℕ → ℕ → List (List ℕ) → Job
 unfolding readDecision
 readDecisions n v k room [] = days n []
 readDecisions n v k zero (l ∷ ls) = wrongLine k
 readDecisions n v k (suc room) (l ∷ ls) =
-    onJudged (readDecision n v l) (λ d. withDecision d (readDecisions n v (suc k) room ls)) (wrongLine k)
+    onJudged (readDecision n v l) (λ d. withDecision d (readDecisions n v (suc k) room ls)) (λ x. wrongLine k)
 
 unfoldable pub readJob : ℕ → List (List ℕ) → Job
 unfolding readDays readDecisions
 readJob v [] = wrongLine 1
-readJob v (l ∷ ls) = onJudged (readDays l) (λ n. readDecisions n v 2 mostLines ls) (wrongLine 1)
+readJob v (l ∷ ls) = onJudged (readDays l) (λ n. readDecisions n v 2 mostLines ls) (λ x. wrongLine 1)

@@ -4,17 +4,17 @@ use mathlib.Core.List.{List}
 use Prim.Native.Nat.{ℕ, _-_, _^_}
 use lib.Dec.{eqb, ltb}
 use lib.ListN.{length, replicate}
-use Rattle.rules.specs.Bounds.{tableSize, top}
-use Rattle.rules.specs.Meaning.{Rules, rulesOf, places, decides, told}
+use Rattle.meaning.specs.Meaning.{Rules, rulesOf, places, decides, verdictOf}
+use Rattle.meaning.specs.Bounds.{tableSize, top}
 use Rattle.text.specs.Lines.{lines}
 use Rattle.sheet.specs.Reading.{Outcome, readOf}
 use Rattle.job.specs.Input.{longestInput, before, parted, after, Job, days, wrongLine, readJob}
-use Rattle.job.specs.Output.{longText, sheetLine, jobLine, toldText}
+use Rattle.job.specs.Output.{longText, sheetLine, jobLine, verdictText}
 
 -- a job for a rule set and its start: filtered once all lines are taken; all masks start full, all limits at the top
 unfoldable pub doneText : Rules → ℕ → Job → List ℕ
 doneText r s (wrongLine k) = jobLine k
-doneText r s (days n ds) = toldText (told r s 0 (decides (places (replicate n (2 ^ r .arcs .values - 1)) (replicate n top)) ds))
+doneText r s (days n ds) = verdictText (verdictOf r s 0 (decides (places (replicate n (2 ^ r .arcs .values - 1)) (replicate n top)) ds))
 
 -- of a right sheet, the lines after the first empty line are the job; with no such line, its first line is missing
 unfoldable pub jobDone : List ℕ → Outcome → List ℕ

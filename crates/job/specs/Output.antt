@@ -3,7 +3,7 @@ use mathlib.Core.Bool.{cond}
 use mathlib.Core.List.{List, [], _∷_, _++_}
 use Prim.Native.Nat.{ℕ, suc}
 use lib.Dec.{eqb}
-use Rattle.rules.specs.Meaning.{Told}
+use Rattle.meaning.specs.Meaning.{Verdict}
 use Rattle.text.specs.Bytes.{tab, feed}
 use Rattle.text.specs.Numbers.{decimal}
 
@@ -31,6 +31,6 @@ unfolding keptLine
 keptLines i [] = []
 keptLines i (m ∷ ms) = keptLine i m ++ keptLines (suc i) ms
 
-unfoldable pub toldText : Told → List ℕ
+unfoldable pub verdictText : Verdict → List ℕ
 unfolding keptLines leastLine
-toldText t = cond (eqb (t .answered) 0) (keptLines 0 (t .masks) ++ leastLine (t .cheapest)) noneText
+verdictText t = cond (eqb (t .answered) 0) (keptLines 0 (t .masks) ++ leastLine (t .cheapest)) noneText

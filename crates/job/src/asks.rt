@@ -2,7 +2,7 @@
 ghost use mathlib.Core.Path.{_≡_};
 ghost use Prim.Native.Nat.{_-_, _^_, _≤_};
 ghost use lib.ListN.{drop};
-ghost use Rattle.rules.specs.Bounds.{mostValues};
+ghost use Rattle.meaning.specs.Bounds.{mostValues};
 ghost use Rattle.job.specs.Input.{mostDays, readDays, readKeep, readLimit, readDecision};
 ghost use Rattle.job.specs.Inner.{daysView, AskedAt};
 use text::bytes::begins;

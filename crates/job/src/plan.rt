@@ -3,9 +3,9 @@ ghost use mathlib.Core.Path.{_≡_};
 ghost use mathlib.Core.Bool.{true};
 ghost use Prim.Native.Nat.{_-_, _^_, _≤_};
 ghost use lib.ListN.{length, drop, replicate};
-ghost use Rattle.rules.specs.Bounds.{workSize, top};
+ghost use Rattle.meaning.specs.Meaning.{rulesOf};
+ghost use Rattle.meaning.specs.Bounds.{workSize, top};
 ghost use Rattle.rules.specs.Checks.{rulesRight};
-ghost use Rattle.rules.specs.Meaning.{rulesOf};
 ghost use Rattle.text.specs.Lines.{lines};
 ghost use Rattle.text.specs.Writing.{Wrote};
 ghost use Rattle.job.specs.Input.{mostDays, mostLines, readDecisions, readJob};
@@ -20,10 +20,8 @@ use crate::take::Taken;
 use crate::take::take_lines;
 use rules::Size;
 use rules::bounds;
+use rules::bounds::TOP;
 use text::lines::line_end;
-
-// No running cost passes this.
-const TOP: u32 = (bounds::MOST_PLACES as u32) * (bounds::MOST_COST as u32);
 
 // Room for as many days as a job may have, and for their work table.
 const DAYS: usize = MOST_DAYS as usize;

@@ -2,11 +2,11 @@
 ghost use mathlib.Core.Path.{_≡_};
 ghost use mathlib.Core.Bool.{true};
 ghost use lib.ListN.{length};
-ghost use Rattle.rules.specs.Bounds.{workSize};
+ghost use Rattle.meaning.specs.Meaning.{rulesOf, places, verdictOf};
+ghost use Rattle.meaning.specs.Bounds.{workSize};
 ghost use Rattle.rules.specs.Checks.{sizesRight, rulesRight, masksRight};
-ghost use Rattle.rules.specs.Meaning.{rulesOf, places, told};
 ghost use Rattle.text.specs.Writing.{Wrote};
-ghost use Rattle.job.specs.Output.{toldText};
+ghost use Rattle.job.specs.Output.{verdictText};
 use crate::print::put_line;
 use crate::print::put_masks;
 use filter::filter;
@@ -27,7 +27,7 @@ pub(crate) fn show(
     output: &mut [u8],
 ) -> usize
     requires { ⌜ (sizesRight days (size .states) (size .values) (size .start .0) ≡ true) × (rulesRight (size .states) (size .values) (size .start .0) (now targets) (now costs) accepting ≡ true) × (masksRight (size .values) (now masks) ≡ true) × (length (now masks) ≡ days) × (length (now limits) ≡ days) × (length (now kept) ≡ days) × (length (now work) ≡ workSize days) ⌝ }
-    ensures { λ r. ⌜ Wrote (now (output .entry)) 0 (toldText (told (rulesOf (size .states) (size .values) (now (targets .entry)) (now (costs .entry)) accepting) (size .start .0) 0 (places (now (masks .entry)) (now (limits .entry))))) (now (output .exit)) r ⌝ }
+    ensures { λ r. ⌜ Wrote (now (output .entry)) 0 (verdictText (verdictOf (rulesOf (size .states) (size .values) (now (targets .entry)) (now (costs .entry)) accepting) (size .start .0) 0 (places (now (masks .entry)) (now (limits .entry))))) (now (output .exit)) r ⌝ }
 {
     let filtered = filter(
         days,

@@ -2,8 +2,8 @@
 ghost use mathlib.Core.Path.{_≡_};
 ghost use Prim.Native.Nat.{_≤_};
 ghost use lib.ListN.{length, drop};
-ghost use Rattle.rules.specs.Bounds.{mostValues};
-ghost use Rattle.rules.specs.Meaning.{places, decides};
+ghost use Rattle.meaning.specs.Meaning.{places, decides};
+ghost use Rattle.meaning.specs.Bounds.{mostValues};
 ghost use Rattle.text.specs.Lines.{lines};
 ghost use Rattle.job.specs.Input.{mostDays, mostLines, readDecisions};
 ghost use Rattle.job.specs.Inner.{asks, AskedIn, Took};

@@ -1,5 +1,5 @@
 -- The laws of bits and masks, over every width. Assumes nothing.
-use mathlib.Core.Path.{_≡_, refl, sym, ap, ap₂, _∙_, subst}
+use mathlib.Core.Path.{_≡_, refl, sym, ap, _∙_}
 use mathlib.Core.Bool.{Bool, true, false, cond, _&&_, _||_, or-false}
 use Prim.Native.Nat.{ℕ, zero, suc, _+_, _-_, _*_, _/_, _%_, _^_, _≤_, _<_, min}
 use native.Mathlib.Nat.{pow-suc, pow-succ', div-div-eq-div-mul, div-eq-of-lt, lt-of-lt-of-le, div-lt-iff-lt-mul, zero-div, one-mul, div-one}
@@ -10,12 +10,18 @@ use lib.Pow.{pow-pos, pow-mono, pow-lt, high, shl-exact}
 use native.Mathlib.Numerals.{add-one}
 use borrow.Author.Tests.{lt-ltb, le-ltb, eq-eqb, ne-eqb}
 use lib.Dec.{eqb, ltb, leb·suc-suc, leb·zero, eqb·suc-suc, eqb·zero-suc, eqb·suc-zero, leb·suc-zero}
-use Rattle.kinds.specs.Bits.{width, bit, maskOf, firstFrom, smallestOf}
+use Rattle.kinds.specs.Bits.{bit, maskOf, firstFrom}
 
 -- a shift and an `and` with 1
 pub bit-test : (m v : ℕ) → eqb (bitAnd (m / 2 ^ v) 1) 1 ≡ bit m v
 unfolding bit
 bit-test m v = ap (λ (x : ℕ). eqb x 1) (and-mask (m / 2 ^ v) 1)
+
+pub bit-yes : (m v : ℕ) → bitAnd (m / 2 ^ v) 1 ≡ 1 → bit m v ≡ true
+bit-yes m v h = sym (bit-test m v) ∙ eq-eqb _ _ h
+
+pub bit-no : (m v : ℕ) → (bitAnd (m / 2 ^ v) 1 ≡ 1 → ⊥) → bit m v ≡ false
+bit-no m v h = sym (bit-test m v) ∙ ne-eqb _ _ h
 
 pub bit-zero : (m : ℕ) → bit m 0 ≡ eqb (m % 2) 1
 unfolding bit
@@ -191,3 +197,9 @@ none-above m k = go (decLt m (2 ^ k))
 
 pub below-width : (w m k : ℕ) → m < 2 ^ w → w ≤ k → ltb m (2 ^ k) ≡ true
 below-width w m k h l = lt-ltb m (2 ^ k) (lt-of-lt-of-le h (pow-mono l))
+
+-- a mask with no bit from k on
+pub mask-cut : (f : ℕ → Bool) (k n : ℕ) → ((u : ℕ) → k ≤ u → f u ≡ false) → maskOf f (k + n) ≡ maskOf f k
+unfolding maskOf
+mask-cut f k zero h = let e : k + 0 ≡ k = omega arith in rw e
+mask-cut f k (suc n) h = let e : k + suc n ≡ suc (k + n) = omega arith in rw (e, h (k + n) (omega arith), maskOf) (omega (arith, mask-cut f k n h))

@@ -7,7 +7,7 @@ use native.Mathlib.Numerals.{add-one}
 use lib.ListN.{length, getD, take, drop, set, length-set, drop-of-length-le}
 use lib.Seq.{drop-cons, set-at, append-snoc, take-suc, length-take-le, take-all}
 use borrow.Author.Tests.{eq-eqb, ne-eqb}
-use Rattle.machine.specs.Calls.{copied}
+use Rattle.machine.specs.Copied.{copied}
 
 -- the first i elements of d are those of s, the others those of d₀
 pub record Copying (s d₀ : List ℕ) (i : ℕ) (d : List ℕ) : Type 0 where

@@ -1,13 +1,8 @@
-pub mod Below
-pub mod Numbers
 pub mod Copies
-pub mod Entries
+pub mod Lents
 pub mod Ranges
-pub mod Image
 pub mod Replays
 pub mod Shows
 pub mod Refreshes
-pub mod Decided
 pub mod Readies
-pub mod WellFormed
 pub mod Unique

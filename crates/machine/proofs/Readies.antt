@@ -1,29 +1,29 @@
--- The returns of `ready` and `settle`. Assumes nothing.
+-- The returns of `ready` and `renew`. Assumes nothing.
 use mathlib.Core.Path.{_≡_, refl, sym, ap, _∙_}
 use mathlib.Core.Bool.{Bool, true, false}
 use mathlib.Core.List.{List, [], _∷_}
 use Prim.Native.Nat.{ℕ, _-_, _≤_}
 use native.Mathlib.Omega.{arith}
 use lib.ListN.{length, take, length-drop}
-use Rattle.rules.specs.Bounds.{mostPlaces, mostValues}
-use Rattle.rules.specs.Answers.{check, decided, swept, zeros}
+use Rattle.meaning.specs.Bounds.{mostPlaces, mostValues}
 use Rattle.rules.specs.Checks.{Handed}
+use Rattle.rules.specs.Answers.{check, decided, workAfter, zeros}
 use Rattle.rules.proofs.Checks.{size-of, sizes-of}
-use Rattle.machine.specs.Room.{shownSize, heldSize, memorySize}
-use Rattle.machine.specs.Memory.{heldIn, heldRight, wellFormed}
-use Rattle.machine.specs.Calls.{readiness, readyOf, Left, left, lentChecks, settledOf, settledBy}
-use Rattle.machine.specs.Inner.{Held, Lent, Judged, lentOf}
-use Rattle.machine.proofs.Numbers.{tail-is}
-use Rattle.machine.proofs.Decided.{Passed, through, refused-on, passed-on, lent-of, memory-of}
+use Rattle.ledger.specs.Readiness.{readiness, readyOf, Left, left, lentChecks, renewedOf, renewedBy, Lent}
+use Rattle.ledger.specs.Layout.{shownSize, heldSize, memorySize}
+use Rattle.ledger.specs.Memory.{heldIn, heldRight, wellFormed, Held}
+use Rattle.ledger.proofs.Numbers.{tail-is}
+use Rattle.ledger.proofs.Checked.{Passed, through, refused-on, passed-on, lent-of, memory-of}
+use Rattle.machine.specs.Inner.{Compared, lentOf}
 
 module _ (h : Handed) (m w w' : List ℕ) (a : ℕ) (e : readiness a w' ≡ lentOf h (length m) w) where
   pub ready-lent : (a ≡ 0 → ⊥) → readiness a w' ≡ readyOf h m w
   unfolding lentOf readyOf
   ready-lent z = refused-on w w readiness _ _ (lentChecks h (length m) (length w)) (readiness a w') e z
 
-  pub settle-lent : (a ≡ 0 → ⊥) → left a m w' ≡ settledOf h m w
-  unfolding lentOf settledOf
-  settle-lent z = refused-on w w (λ n u. left n m u) _ _ (lentChecks h (length m) (length w)) (readiness a w') e z
+  pub renew-lent : (a ≡ 0 → ⊥) → left a m w' ≡ renewedOf h m w
+  unfolding lentOf renewedOf
+  renew-lent z = refused-on w w (λ n u. left n m u) _ _ (lentChecks h (length m) (length w)) (readiness a w') e z
 
   module _ (z : a ≡ 0) where
     both-of : Passed (lentChecks h (length m) (length w)) × (w' ≡ w)
@@ -44,19 +44,19 @@ module _ (h : Handed) (m w w' : List ℕ) (a : ℕ) (e : readiness a w' ≡ lent
     pub part-long : length (take (length m - shownSize (h .places)) (heldIn (h .places) m)) ≡ heldSize (h .places)
     part-long = ap length (tail-is (shownSize (h .places)) m) ∙ simp length-drop (let b = bounds .3 in omega arith)
 
-    swept-now : (u : List ℕ) → u ≡ zeros w' → u ≡ zeros w
-    swept-now u g = g ∙ ap (λ (x : List ℕ). zeros x) (both-of .1)
+    work-now : (u : List ℕ) → u ≡ zeros w' → u ≡ zeros w
+    work-now u g = g ∙ ap (λ (x : List ℕ). zeros x) (both-of .1)
 
-    ready-tail : readyOf h m w ≡ decided (check 12 (wellFormed h m) ∷ []) (λ n. readiness n (swept n w)) (readiness 0 (zeros w))
+    ready-tail : readyOf h m w ≡ decided (check 12 (wellFormed h m) ∷ []) (λ n. readiness n (workAfter n w)) (readiness 0 (zeros w))
     unfolding readyOf
     ready-tail = through (lentChecks h (length m) (length w)) (check 12 (wellFormed h m) ∷ []) _ _ passed
 
     abbrev right : List ℕ → Bool
     right l = heldRight (h .places) (h .rules .arcs .states) (h .rules .arcs .values) (h .start) l
 
-    settle-tail : settledOf h m w ≡ decided (check 12 (right (heldIn (h .places) m)) ∷ []) (λ n. left n m (swept n w)) (settledBy h (heldIn (h .places) m) w)
-    unfolding settledOf
-    settle-tail = through (lentChecks h (length m) (length w)) (check 12 (right (heldIn (h .places) m)) ∷ []) _ _ passed
+    renew-tail : renewedOf h m w ≡ decided (check 12 (right (heldIn (h .places) m)) ∷ []) (λ n. left n m (workAfter n w)) (renewedBy h (heldIn (h .places) m) w)
+    unfolding renewedOf
+    renew-tail = through (lentChecks h (length m) (length w)) (check 12 (right (heldIn (h .places) m)) ∷ []) _ _ passed
 
     right-is : (b r : Bool) → b ≡ right (take (length m - shownSize (h .places)) (heldIn (h .places) m)) → b ≡ r → right (heldIn (h .places) m) ≡ r
     right-is b r f g = sym (ap right (tail-is (shownSize (h .places)) m)) ∙ sym f ∙ g
@@ -65,12 +65,12 @@ module _ (h : Handed) (m w w' : List ℕ) (a : ℕ) (e : readiness a w' ≡ lent
       pub ready-held : b ≡ false → (u : List ℕ) → u ≡ zeros w' → readiness 12 u ≡ readyOf h m w
       unfolding wellFormed decided
       ready-held g u k =
-          rw (ready-tail, right-is b false f g) (ap (readiness 12) (swept-now u k))
+          rw (ready-tail, right-is b false f g) (ap (readiness 12) (work-now u k))
 
-      pub settle-held : b ≡ false → (u : List ℕ) → u ≡ zeros w' → left 12 m u ≡ settledOf h m w
+      pub renew-held : b ≡ false → (u : List ℕ) → u ≡ zeros w' → left 12 m u ≡ renewedOf h m w
       unfolding decided
-      settle-held g u k =
-          rw (settle-tail, right-is b false f g) (ap (left 12 m) (swept-now u k))
+      renew-held g u k =
+          rw (renew-tail, right-is b false f g) (ap (left 12 m) (work-now u k))
 
       module _ (g : b ≡ true) where
         pub held-now : Held (h .places) (h .rules .arcs .states) (h .rules .arcs .values) (h .start) (heldIn (h .places) m)
@@ -82,17 +82,17 @@ module _ (h : Handed) (m w w' : List ℕ) (a : ℕ) (e : readiness a w' ≡ lent
           right = right-is b true f g;
         }
 
-        pub ready-shown : (r : Bool) (u : List ℕ) → Judged h m w' r u → r ≡ false → readiness 12 u ≡ readyOf h m w
+        pub ready-shown : (r : Bool) (u : List ℕ) → Compared h m w' r u → r ≡ false → readiness 12 u ≡ readyOf h m w
         unfolding wellFormed decided
         ready-shown r u j k =
-            rw (ready-tail, right-is b true f g, sym (j .verdict) ∙ k) (ap (readiness 12) (swept-now u (j .swept-after)))
+            rw (ready-tail, right-is b true f g, sym (j .verdict) ∙ k) (ap (readiness 12) (work-now u (j .work-after)))
 
-        pub ready-done : (r : Bool) (u : List ℕ) → Judged h m w' r u → r ≡ true → readiness 0 u ≡ readyOf h m w
+        pub ready-done : (r : Bool) (u : List ℕ) → Compared h m w' r u → r ≡ true → readiness 0 u ≡ readyOf h m w
         unfolding wellFormed decided
         ready-done r u j k =
-            rw (ready-tail, right-is b true f g, sym (j .verdict) ∙ k) (ap (readiness 0) (swept-now u (j .swept-after)))
+            rw (ready-tail, right-is b true f g, sym (j .verdict) ∙ k) (ap (readiness 0) (work-now u (j .work-after)))
 
-        pub settle-done : (x : Left) → x ≡ settledBy h (heldIn (h .places) m) w' → x ≡ settledOf h m w
+        pub renew-done : (x : Left) → x ≡ renewedBy h (heldIn (h .places) m) w' → x ≡ renewedOf h m w
         unfolding decided
-        settle-done x k =
-            rw (settle-tail, right-is b true f g) (k ∙ ap (settledBy h (heldIn (h .places) m)) (both-of .1))
+        renew-done x k =
+            rw (renew-tail, right-is b true f g) (k ∙ ap (renewedBy h (heldIn (h .places) m)) (both-of .1))

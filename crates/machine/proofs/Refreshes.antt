@@ -10,21 +10,22 @@ use lib.ListN.{length, getD, drop, take, replicate, length-drop, length-replicat
 use lib.Seq.{length-take-le}
 use lib.Pow.{pow-mono}
 use borrow.Author.Tests.{eq-eqb, lt-ltb, ltb-true}
-use Rattle.rules.specs.Bounds.{mostPlaces}
-use Rattle.rules.specs.Lists.{all}
-use Rattle.rules.specs.Meaning.{Place, place, places, Decision, Keep, Limit, change, decide, decides, Told, toldOf, told}
-use Rattle.rules.specs.Answers.{decided, zeros}
+use Rattle.meaning.specs.Meaning.{Place, place, places, Decision, Keep, Limit, change, decide, decides, Verdict, verdict, verdictOf}
+use Rattle.meaning.specs.Lists.{all}
+use Rattle.meaning.specs.Bounds.{mostPlaces}
 use Rattle.rules.specs.Checks.{Handed, masksRight}
+use Rattle.rules.specs.Answers.{decided, zeros}
 use Rattle.rules.proofs.Checks.{both}
+use Rattle.ledger.specs.Sessions.{Opening, opening, standing, placesBy, verdictBy}
+use Rattle.ledger.specs.Readiness.{left, renewedBy, Lent}
+use Rattle.ledger.specs.Layout.{openingPlace, rowsSize, headSize, heldSize, shownSize, mostDecisions, mostMarks}
+use Rattle.ledger.specs.Memory.{allBelow, countOf, rowsOf, entriesAt, entriesOf, openingAt, openingOf, heldIn, same, shownOf, verdictHeld, Held}
+use Rattle.ledger.proofs.Numbers.{and-both, below-more, masks-below, tail-is}
+use Rattle.ledger.proofs.Image.{held-head, held-room, held-masks, room-long, room-rows}
+use Rattle.ledger.proofs.Head.{head-all}
+use Rattle.machine.specs.Inner.{Compared, RowsSafe}
+use Rattle.machine.proofs.Ranges.{rows-safe}
 use Rattle.filter.specs.Filter.{Left, left as filtered, lengthsRight, filterDone, filterOf}
-use Rattle.machine.specs.Room.{openingPlace, rowsSize, headSize, heldSize, shownSize, mostDecisions, mostMarks}
-use Rattle.machine.specs.Sessions.{Opening, opening, standing, placesBy, toldBy}
-use Rattle.machine.specs.Memory.{allBelow, countOf, rowsOf, entriesAt, entriesOf, openingAt, openingOf, heldIn, same, shownOf, toldHeld}
-use Rattle.machine.specs.Calls.{left, settledBy}
-use Rattle.machine.specs.Inner.{Held, Lent, Judged, RowsSafe}
-use Rattle.machine.proofs.Numbers.{and-both, below-more, masks-below, tail-is}
-use Rattle.machine.proofs.Ranges.{head-all, rows-safe}
-use Rattle.machine.proofs.Image.{held-head, held-room, held-masks, room-long, room-rows}
 
 -- decisions leave masks in range
 module _ (v : ℕ) where
@@ -80,7 +81,7 @@ module _ (n q v start : ℕ) (l : List ℕ) (h : Held n q v start l) where
 -- the filter passes all checks
 module _ (h : Handed) (ms ls kept work : List ℕ) (lent : Lent h work) where
   filter-tells : length ms ≡ h .places → length ls ≡ h .places → length kept ≡ h .places → masksRight (h .rules .arcs .values) ms ≡ true
-      → filterOf h ms ls kept work ≡ filterDone (told (h .rules) (h .start) 0 (places ms ls)) work
+      → filterOf h ms ls kept work ≡ filterDone (verdictOf (h .rules) (h .start) 0 (places ms ls)) work
   unfolding filterOf decided lengthsRight
   filter-tells a b c d =
       rw (lent .sized, lent .tabled, eq-eqb _ _ a, eq-eqb _ _ b, eq-eqb _ _ c, eq-eqb _ _ (lent .worked), lent .ruled, d)
@@ -108,11 +109,11 @@ module _ (h : Handed) (l ms₀ ls₀ ms ls kept work : List ℕ) (k : ℕ) (lent
       replayed ∙ ap₂ (λ (o : Opening) (j : ℕ). decides (places (o .masks) (o .limits)) (standing (entriesAt j (take rowsSize (drop headSize l))))) opened-is counted
 
   pub refreshed : length ms₀ ≡ h .places → length ls₀ ≡ h .places → length ms ≡ h .places → length ls ≡ h .places → length kept ≡ h .places
-      → (x : Left) → x ≡ filterOf h ms ls kept work → x ≡ filterDone (toldHeld h l) work
-  unfolding toldHeld toldBy
+      → (x : Left) → x ≡ filterOf h ms ls kept work → x ≡ filterDone (verdictHeld h l) work
+  unfolding verdictHeld verdictBy
   refreshed a b c d e x f =
       f ∙ filter-tells h ms ls kept work lent c d e (masks-inside (a ∙ sym b) (c ∙ sym d))
-      ∙ ap (λ (ps : List Place). filterDone (told (h .rules) (h .start) 0 ps) work) places-are
+      ∙ ap (λ (ps : List Place). filterDone (verdictOf (h .rules) (h .start) 0 ps) work) places-are
 
 -- in the memory around what is held
 module _ (n q v start : ℕ) (m : List ℕ) (h : Held n q v start (heldIn n m)) where
@@ -126,30 +127,30 @@ module _ (n q v start : ℕ) (m : List ℕ) (h : Held n q v start (heldIn n m)) 
   front-long = sym (length-take-le (shownSize n) m (let w = memory-long in omega arith))
 
 module _ (h : Handed) (m w w' ks : List ℕ) (a a' c : ℕ) (number : a' ≡ a)
-    (told-is : filtered a c ks w' ≡ filterDone (toldHeld h (take (length m - shownSize (h .places)) (heldIn (h .places) m))) w) where
-  abbrev t : Told
-  t = toldHeld h (heldIn (h .places) m)
+    (verdict-is : filtered a c ks w' ≡ filterDone (verdictHeld h (take (length m - shownSize (h .places)) (heldIn (h .places) m))) w) where
+  abbrev t : Verdict
+  t = verdictHeld h (heldIn (h .places) m)
 
   whole : filtered a c ks w' ≡ filterDone t w
-  whole = told-is ∙ ap (λ (l : List ℕ). filterDone (toldHeld h l) w) (tail-is (shownSize (h .places)) m)
+  whole = verdict-is ∙ ap (λ (l : List ℕ). filterDone (verdictHeld h l) w) (tail-is (shownSize (h .places)) m)
 
-  shown-is : toldOf a' ks c ≡ t
+  shown-is : verdict a' ks c ≡ t
   unfolding filterDone
-  shown-is = ap (λ (x : ℕ). toldOf x ks c) number ∙ ap (λ (x : Left). toldOf (x .answer) (x .kept) (x .least)) whole
+  shown-is = ap (λ (x : ℕ). verdict x ks c) number ∙ ap (λ (x : Left). verdict (x .answer) (x .kept) (x .least)) whole
 
   work-is : w' ≡ zeros w
   unfolding filterDone
   work-is = ap (λ (x : Left). x .work) whole
 
-  pub judged : (r : Bool) → r ≡ same (take (shownSize (h .places)) m) (shownOf (toldOf a' ks c)) → Judged h m w r w'
-  judged r e = record { verdict = e ∙ ap (λ (x : Told). same (take (shownSize (h .places)) m) (shownOf x)) shown-is; swept-after = work-is }
+  pub judged : (r : Bool) → r ≡ same (take (shownSize (h .places)) m) (shownOf (verdict a' ks c)) → Compared h m w r w'
+  judged r e = record { verdict = e ∙ ap (λ (x : Verdict). same (take (shownSize (h .places)) m) (shownOf x)) shown-is; work-after = work-is }
 
-  pub settles : (y : List ℕ) → y ≡ shownOf (toldOf a' ks c) → left a (y ++ heldIn (h .places) m) w' ≡ settledBy h (heldIn (h .places) m) w
-  unfolding settledBy
-  settles y e =
+  pub renews : (y : List ℕ) → y ≡ shownOf (verdict a' ks c) → left a (y ++ heldIn (h .places) m) w' ≡ renewedBy h (heldIn (h .places) m) w
+  unfolding renewedBy
+  renews y e =
       ap (λ (x : List ℕ). left a (x ++ heldIn (h .places) m) w') e
-      ∙ ap₂ (λ (x : ℕ) (u : List ℕ). left x (shownOf (toldOf a' ks c) ++ heldIn (h .places) m) u) (sym number) work-is
-      ∙ ap (λ (x : Told). left (x .answered) (shownOf x ++ heldIn (h .places) m) (zeros w)) shown-is
+      ∙ ap₂ (λ (x : ℕ) (u : List ℕ). left x (shownOf (verdict a' ks c) ++ heldIn (h .places) m) u) (sym number) work-is
+      ∙ ap (λ (x : Verdict). left (x .answered) (shownOf x ++ heldIn (h .places) m) (zeros w)) shown-is
 
 -- the front of the local arrays
 abbrev pub blank : List ℕ

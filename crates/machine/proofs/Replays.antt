@@ -6,11 +6,11 @@ use native.Mathlib.Numerals.{add-one}
 use lib.Bits.{bitAnd}
 use lib.ListN.{getD, set}
 use borrow.Author.Tests.{eq-eqb, ne-eqb}
-use Rattle.rules.specs.Meaning.{Place, places, decides}
-use Rattle.rules.proofs.Decisions.{decides-append, keep-stored, limit-stored}
-use Rattle.machine.specs.Room.{keepKind, limitKind, rowSize}
-use Rattle.machine.specs.Sessions.{Entry, decision, mark, standing}
-use Rattle.machine.specs.Memory.{entryOf, entryAt, entriesAt}
+use Rattle.meaning.specs.Meaning.{Place, places, decides}
+use Rattle.meaning.proofs.Decisions.{decides-append, keep-stored, limit-stored}
+use Rattle.ledger.specs.Sessions.{Entry, decision, mark, standing}
+use Rattle.ledger.specs.Layout.{keepKind, limitKind, rowSize}
+use Rattle.ledger.specs.Memory.{entryOf, entryAt, entriesAt}
 use Rattle.machine.specs.Inner.{RowSafe, RowsSafe}
 
 module _ (k p x : ℕ) (ms ls : List ℕ) where

@@ -7,10 +7,10 @@ use native.Mathlib.Omega.{arith}
 use lib.ListN.{length, getD, drop, take, set, length-append, length-take, length-drop, drop-of-length-le}
 use lib.Dec.{eqb}
 use borrow.Author.Tests.{eq-eqb, ne-eqb}
-use Rattle.rules.specs.Meaning.{toldOf}
-use Rattle.machine.specs.Memory.{same, shownOf}
-use Rattle.machine.specs.Calls.{copied}
-use Rattle.machine.proofs.Numbers.{tail-is}
+use Rattle.meaning.specs.Meaning.{verdict}
+use Rattle.ledger.specs.Memory.{same, shownOf}
+use Rattle.ledger.proofs.Numbers.{tail-is}
+use Rattle.machine.specs.Copied.{copied}
 use Rattle.machine.proofs.Copies.{copied-is}
 
 two-of : (s : List ℕ) → 2 ≤ length s → s ≡ getD s 0 0 ∷ getD s 1 0 ∷ drop 2 s
@@ -20,17 +20,17 @@ two-of (a ∷ b ∷ s) h = refl
 
 module _ (a c : ℕ) (ks s : List ℕ) (h : length s ≡ length ks + 2) where
   -- the two numbers compared one by one
-  shown-by : same s (shownOf (toldOf a ks c)) ≡ (eqb (getD s 0 0) a && (eqb (getD s 1 0) c && same (drop 2 s) ks))
+  shown-by : same s (shownOf (verdict a ks c)) ≡ (eqb (getD s 0 0) a && (eqb (getD s 1 0) c && same (drop 2 s) ks))
   unfolding same shownOf
   shown-by = ap (λ (t : List ℕ). same t (a ∷ c ∷ ks)) (two-of s (omega arith))
 
-  pub shown-1 : (getD s 0 0 ≡ a → ⊥) → false ≡ same s (shownOf (toldOf a ks c))
+  pub shown-1 : (getD s 0 0 ≡ a → ⊥) → false ≡ same s (shownOf (verdict a ks c))
   shown-1 e = sym (shown-by ∙ rw (ne-eqb (getD s 0 0) a e))
 
-  pub shown-2 : getD s 0 0 ≡ a → (getD s 1 0 ≡ c → ⊥) → false ≡ same s (shownOf (toldOf a ks c))
+  pub shown-2 : getD s 0 0 ≡ a → (getD s 1 0 ≡ c → ⊥) → false ≡ same s (shownOf (verdict a ks c))
   shown-2 f e = sym (shown-by ∙ rw (eq-eqb (getD s 0 0) a f, ne-eqb (getD s 1 0) c e))
 
-  pub shown-3 : getD s 0 0 ≡ a → getD s 1 0 ≡ c → same (take (length s - 2) (drop 2 s)) ks ≡ same s (shownOf (toldOf a ks c))
+  pub shown-3 : getD s 0 0 ≡ a → getD s 1 0 ≡ c → same (take (length s - 2) (drop 2 s)) ks ≡ same s (shownOf (verdict a ks c))
   shown-3 f e = ap (λ (t : List ℕ). same t ks) (tail-is 2 s) ∙ sym (shown-by ∙ rw (eq-eqb (getD s 0 0) a f, eq-eqb (getD s 1 0) c e))
 
   module _ (y : List ℕ) (w : y ≡ copied (take (length s - 2) (drop 2 s)) ks) where
@@ -40,7 +40,7 @@ module _ (a c : ℕ) (ks s : List ℕ) (h : length s ≡ length ks + 2) where
     pub shows-long : length (take 2 s ++ (y ++ drop (length s - 2) (drop 2 s))) ≡ length s
     shows-long = simp (length-append, length-take, length-drop) (let z : length y ≡ length ks = ap length masks-are in omega arith)
 
-    pub shows : set (set (take 2 s ++ (y ++ drop (length s - 2) (drop 2 s))) 0 a) 1 c ≡ shownOf (toldOf a ks c)
+    pub shows : set (set (take 2 s ++ (y ++ drop (length s - 2) (drop 2 s))) 0 a) 1 c ≡ shownOf (verdict a ks c)
     unfolding shownOf
     shows =
         ap₂ (λ (t u : List ℕ). set (set (take 2 t ++ (y ++ u)) 0 a) 1 c) (two-of s (omega arith))

@@ -1,5 +1,2 @@
-pub mod Room
-pub mod Sessions
-pub mod Memory
-pub mod Calls
+pub mod Copied
 pub mod Inner

@@ -2,11 +2,11 @@
 ghost use mathlib.Core.Path.{_≡_};
 ghost use Prim.Native.Nat.{_≤_};
 ghost use lib.ListN.{length};
-ghost use Rattle.rules.specs.Bounds.{mostPlaces, mostValues};
-ghost use Rattle.machine.specs.Room.{mostDecisions, mostMarks, rowsSize, openingPlace, heldSize};
-ghost use Rattle.machine.specs.Memory.{headRight, roomRight, heldRight};
+ghost use Rattle.meaning.specs.Bounds.{mostPlaces, mostValues};
+ghost use Rattle.ledger.specs.Layout.{mostDecisions, mostMarks, rowsSize, openingPlace, heldSize};
+ghost use Rattle.ledger.specs.Memory.{headRight, roomRight, heldRight};
+use crate::layout;
 use crate::lists;
-use crate::room;
 use crate::rows;
 use rules::Size;
 
@@ -28,13 +28,13 @@ pub(crate) fn head_right(places: usize, size: Size, held: &[u32]) -> bool
     if held[3] != start.0 as u32 {
         return false;
     }
-    if room::MOST_DECISIONS < held[room::DECISIONS] {
+    if layout::MOST_DECISIONS < held[layout::DECISIONS] {
         return false;
     }
-    if room::MOST_MARKS < held[room::MARKS] {
+    if layout::MOST_MARKS < held[layout::MARKS] {
         return false;
     }
-    lists::all_below(&held[room::SPARE..room::ROWS], 1)
+    lists::all_below(&held[layout::SPARE..layout::ROWS], 1)
 }
 
 // Whether the rows hold so many decisions and marks, in range, and zeros behind them.
@@ -55,7 +55,7 @@ pub(crate) fn room_right(
     if rows::marks_among(count, rows) != marks {
         return false;
     }
-    let end = count * room::ROW_SIZE;
+    let end = count * layout::ROW_SIZE;
     lists::all_below(&rows[end..], 1)
 }
 
@@ -71,12 +71,12 @@ pub(crate) fn held_right(places: usize, size: Size, held: &[u32]) -> bool
     if !room_right(
         places,
         values,
-        held[room::DECISIONS],
-        held[room::MARKS],
-        &held[room::ROWS..room::OPENING],
+        held[layout::DECISIONS],
+        held[layout::MARKS],
+        &held[layout::ROWS..layout::OPENING],
     ) {
         return false;
     }
-    let end = room::OPENING + places;
-    lists::all_below(&held[room::OPENING..end], 1u32 << values)
+    let end = layout::OPENING + places;
+    lists::all_below(&held[layout::OPENING..end], 1u32 << values)
 }

@@ -1,10 +1,10 @@
 // What a session call is lent: the checks of answers 1, 2 and 3.
 ghost use mathlib.Core.Path.{_≡_};
-ghost use Rattle.rules.specs.Answers.{numberOf};
 ghost use Rattle.rules.specs.Checks.{handed};
-ghost use Rattle.machine.specs.Calls.{readiness};
+ghost use Rattle.rules.specs.Answers.{numberOf};
+ghost use Rattle.ledger.specs.Readiness.{readiness};
 ghost use Rattle.machine.specs.Inner.{lentOf};
-use crate::room;
+use crate::layout;
 use rules::Answer;
 use rules::Size;
 use rules::bounds;
@@ -28,7 +28,7 @@ pub(crate) fn lent_right(
     if !rules::tables_long(targets, costs) {
         return Answer::WrongLength;
     }
-    if memory != 3 * places + room::REST_SIZE {
+    if memory != 3 * places + layout::REST_SIZE {
         return Answer::WrongLength;
     }
     if work.len() != (places + 1) * bounds::MOST_STATES {

@@ -1,15 +1,15 @@
-// The memory of a session: the image of an abstract session, tested before a call and settled after it.
+// The memory of a session: the image of an abstract session, tested before a call, and shown anew after it.
 ghost use mathlib.Core.Path.{_≡_};
-ghost use Rattle.rules.specs.Answers.{numberOf};
 ghost use Rattle.rules.specs.Checks.{handed};
-ghost use Rattle.machine.specs.Calls.{readiness, readyOf, left, settledOf};
+ghost use Rattle.rules.specs.Answers.{numberOf};
+ghost use Rattle.ledger.specs.Readiness.{readiness, readyOf, left, renewedOf};
 
 mod held;
+pub mod layout;
 mod lent;
 pub mod lists;
 mod refresh;
 mod replay;
-pub mod room;
 pub mod rows;
 mod shown;
 
@@ -33,7 +33,7 @@ pub fn ready(
     if answer.number() != 0 {
         return answer;
     }
-    let front = places + room::SHOWN;
+    let front = places + layout::SHOWN;
     if !held::held_right(places, size, &memory[front..]) {
         clear(work);
         return Answer::WrongMemory;
@@ -45,7 +45,7 @@ pub fn ready(
 }
 
 // Shows what a filter tells of what is held, and answers by it; what was shown before plays no part.
-pub fn settle(
+pub fn renew(
     places: usize,
     size: Size,
     targets: &[u8],
@@ -54,13 +54,13 @@ pub fn settle(
     memory: &mut [u32],
     work: &mut [u32],
 ) -> Answer
-    ensures { λ r. ⌜ left (numberOf r) (now (memory .exit)) (now (work .exit)) ≡ settledOf (handed places (size .states) (size .values) (size .start .0) (now (targets .entry)) (now (costs .entry)) accepting) (now (memory .entry)) (now (work .entry)) ⌝ }
+    ensures { λ r. ⌜ left (numberOf r) (now (memory .exit)) (now (work .exit)) ≡ renewedOf (handed places (size .states) (size .values) (size .start .0) (now (targets .entry)) (now (costs .entry)) accepting) (now (memory .entry)) (now (work .entry)) ⌝ }
 {
     let answer = lent::lent_right(places, size, targets, costs, accepting, memory.len(), work);
     if answer.number() != 0 {
         return answer;
     }
-    let front = places + room::SHOWN;
+    let front = places + layout::SHOWN;
     if !held::held_right(places, size, &memory[front..]) {
         clear(work);
         return Answer::WrongMemory;

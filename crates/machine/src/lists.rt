@@ -2,8 +2,8 @@
 ghost use mathlib.Core.Path.{_≡_};
 ghost use mathlib.Core.Bool.{true};
 ghost use lib.ListN.{length};
-ghost use Rattle.machine.specs.Memory.{allBelow};
-ghost use Rattle.machine.specs.Calls.{copied};
+ghost use Rattle.ledger.specs.Memory.{allBelow};
+ghost use Rattle.machine.specs.Copied.{copied};
 
 // Whether every number is below the bound.
 pub(crate) fn all_below(s: &[u32], bound: u32) -> bool

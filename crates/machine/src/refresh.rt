@@ -1,14 +1,14 @@
 // A filter of what is held: compared with what is shown, or shown.
 ghost use mathlib.Core.Path.{_≡_};
 ghost use lib.ListN.{length};
-ghost use Rattle.rules.specs.Answers.{numberOf};
 ghost use Rattle.rules.specs.Checks.{handed};
+ghost use Rattle.rules.specs.Answers.{numberOf};
+ghost use Rattle.ledger.specs.Readiness.{left, renewedBy, Lent};
+ghost use Rattle.ledger.specs.Memory.{heldIn, verdictHeld, Held};
+ghost use Rattle.machine.specs.Inner.{Compared};
 ghost use Rattle.filter.specs.Filter.{left as filtered, filterDone};
-ghost use Rattle.machine.specs.Memory.{heldIn, toldHeld};
-ghost use Rattle.machine.specs.Calls.{left, settledBy};
-ghost use Rattle.machine.specs.Inner.{Held, Lent, Judged};
+use crate::layout;
 use crate::replay;
-use crate::room;
 use crate::shown;
 use filter::Filtered;
 use rules::Answer;
@@ -29,11 +29,11 @@ fn refresh(
     work: &mut [u32],
 ) -> Filtered
     requires { ⌜ Lent (handed places (size .states) (size .values) (size .start .0) (now targets) (now costs) accepting) (now work) × Held places (size .states) (size .values) (size .start .0) (now held) × (length (now masks) ≡ places) × (length (now limits) ≡ places) × (length (now kept) ≡ places) ⌝ }
-    ensures { λ r. ⌜ filtered (numberOf (r .answer)) (r .least) (now (kept .exit)) (now (work .exit)) ≡ filterDone (toldHeld (handed places (size .states) (size .values) (size .start .0) (now (targets .entry)) (now (costs .entry)) accepting) (now (held .entry))) (now (work .entry)) ⌝ }
+    ensures { λ r. ⌜ filtered (numberOf (r .answer)) (r .least) (now (kept .exit)) (now (work .exit)) ≡ filterDone (verdictHeld (handed places (size .states) (size .values) (size .start .0) (now (targets .entry)) (now (costs .entry)) accepting) (now (held .entry))) (now (work .entry)) ⌝ }
 {
-    replay::restore(places, &held[room::OPENING..], masks, limits);
-    let count = (held[room::DECISIONS] + held[room::MARKS]) as usize;
-    replay::replay(count, &held[room::ROWS..room::OPENING], masks, limits);
+    replay::restore(places, &held[layout::OPENING..], masks, limits);
+    let count = (held[layout::DECISIONS] + held[layout::MARKS]) as usize;
+    replay::replay(count, &held[layout::ROWS..layout::OPENING], masks, limits);
     filter::filter(
         places,
         size,
@@ -61,10 +61,10 @@ fn shown_with(
     work: &mut [u32],
 ) -> bool
     requires { ⌜ Lent (handed places (size .states) (size .values) (size .start .0) (now targets) (now costs) accepting) (now work) × Held places (size .states) (size .values) (size .start .0) (heldIn places (now memory)) × (length (now masks) ≡ places) × (length (now limits) ≡ places) × (length (now kept) ≡ places) ⌝ }
-    ensures { λ r. ⌜ Judged (handed places (size .states) (size .values) (size .start .0) (now (targets .entry)) (now (costs .entry)) accepting) (now (memory .entry)) (now (work .entry)) r (now (work .exit)) ⌝ }
+    ensures { λ r. ⌜ Compared (handed places (size .states) (size .values) (size .start .0) (now (targets .entry)) (now (costs .entry)) accepting) (now (memory .entry)) (now (work .entry)) r (now (work .exit)) ⌝ }
 {
-    let front = places + room::SHOWN;
-    let told = refresh(
+    let front = places + layout::SHOWN;
+    let fresh = refresh(
         places,
         size,
         targets,
@@ -76,8 +76,8 @@ fn shown_with(
         kept,
         work,
     );
-    let answer = told.answer;
-    shown::same_shown(answer.number() as u32, told.least, kept, &memory[..front])
+    let answer = fresh.answer;
+    shown::same_shown(answer.number() as u32, fresh.least, kept, &memory[..front])
 }
 
 // Shows the filter of what is held, and answers by it; masks, limits and kept are lent to work in.
@@ -94,10 +94,10 @@ fn show_with(
     work: &mut [u32],
 ) -> Answer
     requires { ⌜ Lent (handed places (size .states) (size .values) (size .start .0) (now targets) (now costs) accepting) (now work) × Held places (size .states) (size .values) (size .start .0) (heldIn places (now memory)) × (length (now masks) ≡ places) × (length (now limits) ≡ places) × (length (now kept) ≡ places) ⌝ }
-    ensures { λ r. ⌜ left (numberOf r) (now (memory .exit)) (now (work .exit)) ≡ settledBy (handed places (size .states) (size .values) (size .start .0) (now (targets .entry)) (now (costs .entry)) accepting) (heldIn places (now (memory .entry))) (now (work .entry)) ⌝ }
+    ensures { λ r. ⌜ left (numberOf r) (now (memory .exit)) (now (work .exit)) ≡ renewedBy (handed places (size .states) (size .values) (size .start .0) (now (targets .entry)) (now (costs .entry)) accepting) (heldIn places (now (memory .entry))) (now (work .entry)) ⌝ }
 {
-    let front = places + room::SHOWN;
-    let told = refresh(
+    let front = places + layout::SHOWN;
+    let verdict = refresh(
         places,
         size,
         targets,
@@ -109,10 +109,10 @@ fn show_with(
         kept,
         work,
     );
-    let answer = told.answer;
+    let answer = verdict.answer;
     shown::show(
         answer.number() as u32,
-        told.least,
+        verdict.least,
         kept,
         &mut memory[..front],
     );
@@ -130,7 +130,7 @@ pub(crate) fn shown_right(
     work: &mut [u32],
 ) -> bool
     requires { ⌜ Lent (handed places (size .states) (size .values) (size .start .0) (now targets) (now costs) accepting) (now work) × Held places (size .states) (size .values) (size .start .0) (heldIn places (now memory)) ⌝ }
-    ensures { λ r. ⌜ Judged (handed places (size .states) (size .values) (size .start .0) (now (targets .entry)) (now (costs .entry)) accepting) (now (memory .entry)) (now (work .entry)) r (now (work .exit)) ⌝ }
+    ensures { λ r. ⌜ Compared (handed places (size .states) (size .values) (size .start .0) (now (targets .entry)) (now (costs .entry)) accepting) (now (memory .entry)) (now (work .entry)) r (now (work .exit)) ⌝ }
 {
     let mut masks = [0u16; bounds::MOST_PLACES];
     let mut limits = [0u32; bounds::MOST_PLACES];
@@ -160,7 +160,7 @@ pub(crate) fn show_held(
     work: &mut [u32],
 ) -> Answer
     requires { ⌜ Lent (handed places (size .states) (size .values) (size .start .0) (now targets) (now costs) accepting) (now work) × Held places (size .states) (size .values) (size .start .0) (heldIn places (now memory)) ⌝ }
-    ensures { λ r. ⌜ left (numberOf r) (now (memory .exit)) (now (work .exit)) ≡ settledBy (handed places (size .states) (size .values) (size .start .0) (now (targets .entry)) (now (costs .entry)) accepting) (heldIn places (now (memory .entry))) (now (work .entry)) ⌝ }
+    ensures { λ r. ⌜ left (numberOf r) (now (memory .exit)) (now (work .exit)) ≡ renewedBy (handed places (size .states) (size .values) (size .start .0) (now (targets .entry)) (now (costs .entry)) accepting) (heldIn places (now (memory .entry))) (now (work .entry)) ⌝ }
 {
     let mut masks = [0u16; bounds::MOST_PLACES];
     let mut limits = [0u32; bounds::MOST_PLACES];

@@ -2,26 +2,26 @@
 ghost use mathlib.Core.Path.{_≡_};
 ghost use mathlib.Core.Bool.{true};
 ghost use mathlib.Core.List.{[], _∷_};
-ghost use Prim.Native.Nat.{_+_, _≤_, min};
+ghost use Prim.Native.Nat.{_+_, _≤_};
 ghost use lib.ListN.{length, take};
-ghost use Rattle.rules.specs.Meaning.{places, decides};
-ghost use Rattle.machine.specs.Room.{mostEntries, rowsSize};
-ghost use Rattle.machine.specs.Sessions.{opening, standing};
-ghost use Rattle.machine.specs.Memory.{entryOf, entriesAt, openingAt, allBelow};
+ghost use Rattle.meaning.specs.Meaning.{places, decides};
+ghost use Rattle.ledger.specs.Sessions.{opening, standing};
+ghost use Rattle.ledger.specs.Layout.{mostEntries, rowsSize};
+ghost use Rattle.ledger.specs.Memory.{entryOf, entriesAt, openingAt, allBelow};
 ghost use Rattle.machine.specs.Inner.{RowSafe, RowsSafe};
+use crate::layout;
 use crate::lists;
-use crate::room;
 use rules::numbers::lesser;
 // One entry applied: the meet of both masks, or the smaller of both limits.
 pub(crate) fn apply_row(kind: u32, place: usize, amount: u32, masks: &mut [u16], limits: &mut [u32])
     requires { ⌜ RowSafe kind place amount (length (now masks)) (length (now limits)) ⌝ }
     ensures { λ _. ⌜ places (now (masks .exit)) (now (limits .exit)) ≡ decides (places (now (masks .entry)) (now (limits .entry))) (standing (entryOf kind place amount ∷ [])) ⌝ }
 {
-    if kind == room::KEEP {
+    if kind == layout::KEEP {
         masks[place] = masks[place] & (amount as u16);
         return;
     }
-    if kind == room::LIMIT {
+    if kind == layout::LIMIT {
         limits[place] = lesser(limits[place], amount);
     }
 }
@@ -33,7 +33,7 @@ pub(crate) fn replay(count: usize, rows: &[u32], masks: &mut [u16], limits: &mut
 {
     let mut i: usize = 0;
     while i < count {
-        let at = i * room::ROW_SIZE;
+        let at = i * layout::ROW_SIZE;
         apply_row(rows[at], rows[at + 1] as usize, rows[at + 2], masks, limits);
         i += 1;
     }

@@ -2,27 +2,27 @@
 ghost use mathlib.Core.Path.{_≡_};
 ghost use Prim.Native.Nat.{ℕ, _≤_};
 ghost use lib.ListN.{length};
-ghost use Rattle.rules.specs.Bounds.{mostValues};
-ghost use Rattle.machine.specs.Room.{mostEntries, rowsSize};
-ghost use Rattle.machine.specs.Sessions.{isMark, marks};
-ghost use Rattle.machine.specs.Memory.{rowRight, rowsRight, entryOf, entriesAt};
-use crate::room;
+ghost use Rattle.meaning.specs.Bounds.{mostValues};
+ghost use Rattle.ledger.specs.Sessions.{isMark, marks};
+ghost use Rattle.ledger.specs.Layout.{mostEntries, rowsSize};
+ghost use Rattle.ledger.specs.Memory.{rowRight, rowsRight, entryOf, entriesAt};
+use crate::layout;
 
 // Whether an entry's three numbers are in range.
 pub(crate) fn row_right(places: usize, values: usize, kind: u32, place: u32, amount: u32) -> bool
     requires { ⌜ values ≤ mostValues ⌝ }
     ensures { λ r. ⌜ r ≡ rowRight places values kind place amount ⌝ }
 {
-    if kind == room::KEEP {
+    if kind == layout::KEEP {
         if (place as usize) >= places {
             return false;
         }
         return amount < 1u32 << values;
     }
-    if kind == room::LIMIT {
+    if kind == layout::LIMIT {
         return (place as usize) < places;
     }
-    if kind != room::MARK {
+    if kind != layout::MARK {
         return false;
     }
     if place != 0 {
@@ -38,7 +38,7 @@ pub(crate) fn rows_right(places: usize, values: usize, count: usize, rows: &[u32
 {
     let mut i: usize = 0;
     while i < count {
-        let at = i * room::ROW_SIZE;
+        let at = i * layout::ROW_SIZE;
         if !row_right(places, values, rows[at], rows[at + 1], rows[at + 2]) {
             return false;
         }
@@ -51,10 +51,10 @@ pub(crate) fn rows_right(places: usize, values: usize, count: usize, rows: &[u32
 pub fn mark_of(kind: u32) -> u32
     ensures { λ r. ⌜ ((p x : ℕ) → r ≡ isMark (entryOf kind p x)) ⌝ }
 {
-    if kind == room::KEEP {
+    if kind == layout::KEEP {
         return 0;
     }
-    if kind == room::LIMIT {
+    if kind == layout::LIMIT {
         return 0;
     }
     1
@@ -68,7 +68,7 @@ pub(crate) fn marks_among(count: usize, rows: &[u32]) -> u32
     let mut i: usize = 0;
     let mut found: u32 = 0;
     while i < count {
-        found += mark_of(rows[i * room::ROW_SIZE]);
+        found += mark_of(rows[i * layout::ROW_SIZE]);
         i += 1;
     }
     found

@@ -10,12 +10,12 @@ use lib.Dec.{ltb}
 use lib.ListN.{length, take}
 use borrow.Author.Tests.{ltb-true, lt-ltb, leb-true, le-leb}
 use Rattle.kinds.specs.Bits.{bit}
-use Rattle.rules.specs.Bounds.{top}
-use Rattle.rules.specs.Lists.{from, each, those}
-use Rattle.rules.specs.Meaning.{Rules, target, cost, hasArc, Place, takes, allowed, words, rosters}
-use Rattle.rules.proofs.Members.{roster-in, allowed-length}
-use Rattle.rooms.specs.Tables.{Net, Same, framed, capped, room}
-use Rattle.rooms.proofs.Rooms.{room-state, room-way, way-room}
+use Rattle.meaning.specs.Meaning.{Rules, target, cost, hasArc, Place, takes, allowed, words, rosters}
+use Rattle.meaning.specs.Lists.{from, each, those}
+use Rattle.meaning.specs.Bounds.{top}
+use Rattle.meaning.proofs.Members.{roster-in, allowed-length}
+use Rattle.rooms.specs.Tables.{Net, Same, capped, room}
+use Rattle.rooms.proofs.Rooms.{framed, room-state, room-way, way-room}
 
 -- picking from lists
 those-join : {A : Type 0} (f : A → Bool) (xs ys : List A) → those f (xs ++ ys) ≡ those f xs ++ those f ys

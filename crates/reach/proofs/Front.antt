@@ -9,14 +9,14 @@ use native.Mathlib.Omega.{arith}
 use lib.Dec.{ltb, eqb}
 use lib.ListN.{length, getD, drop, length-append}
 use borrow.Author.Tests.{eqb-true, eq-eqb, ltb-true, lt-ltb}
-use Rattle.rules.specs.Bounds.{top}
-use Rattle.rules.specs.Lists.{any}
-use Rattle.rules.specs.Meaning.{Rules, target, cost, total, Place, allowed, rosters, has}
-use Rattle.rules.proofs.Lists.{any-in, in-any}
-use Rattle.rules.proofs.Members.{Below, Goes, goes, allowed-length, roster-in}
-use Rattle.rooms.specs.Tables.{choices, Net, Same, framed, capped, room}
+use Rattle.meaning.specs.Meaning.{Rules, target, cost, total, Place, allowed, rosters, has}
+use Rattle.meaning.specs.Lists.{any}
+use Rattle.meaning.specs.Bounds.{top}
+use Rattle.meaning.proofs.Members.{Below, Goes, goes, allowed-length, roster-in}
+use Rattle.meaning.proofs.Lists.{any-in, in-any, both-ways}
+use Rattle.rooms.specs.Tables.{choices, Net, Same, capped, room}
 use Rattle.reach.specs.Looks.{Look, look, looks, spends, leads, lands, reach, marks}
-use Rattle.rooms.proofs.Rooms.{choice-in, in-choice, room-state, room-way, way-room, total-lower, allowed-lower}
+use Rattle.rooms.proofs.Rooms.{framed, choice-in, in-choice, room-state, room-way, way-room, total-lower, allowed-lower}
 use Rattle.reach.proofs.Reach.{looks-in, in-looks, reach-most, reach-some}
 
 -- a prefix and a suffix of a word
@@ -178,11 +178,6 @@ module _ (r : Rules) (net : Net) (same : Same (r .arcs) (r .arcs .values) net) (
     pub kept-is : (v : ℕ) → any (has i v) (rosters r start spent ps)
         ≡ marks net next (λ q. getD row q 0) v (looks (r .arcs .states) (choices (r .arcs .values) (p .mask)))
     kept-is v = both-ways _ _ (kept-marked v) (marked-kept v)
-      where
-        both-ways : (a b : Bool) → (a ≡ true → b ≡ true) → (b ≡ true → a ≡ true) → a ≡ b
-        both-ways true b f g = sym (f refl)
-        both-ways false true f g = g refl
-        both-ways false false f g = refl
 
     pub front-goes : ((t : ℕ) → t < r .arcs .states
         → let x = reach net (λ q. getD row q 0) (suc top) t (looks (r .arcs .states) (choices (r .arcs .values) (p .mask))) in

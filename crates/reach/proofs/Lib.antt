@@ -1,8 +1,9 @@
 pub mod Reach
 pub mod Front
-pub mod Told
+pub mod Verdicts
 pub mod Sweeping
 pub mod Living
 pub mod Passing
 pub mod Firsts
 pub mod Walking
+pub mod Unique

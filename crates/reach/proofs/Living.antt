@@ -15,9 +15,9 @@ use lib.Pow.{pow-lt}
 use borrow.Author.Tests.{eq-eqb, ne-eqb, lt-ltb, le-ltb}
 use Rattle.kinds.specs.Bits.{bit, maskOf}
 use Rattle.kinds.proofs.Bits.{bit-zero, bit-suc, bit-and, bit-or, bit-none, bit-pow, bit-mask, bit-above, mask-is, mask-lt, shl-one}
-use Rattle.rules.specs.Bounds.{top}
+use Rattle.meaning.specs.Bounds.{top}
 use Rattle.rooms.specs.Tables.{Filled, Loaded, down}
-use Rattle.reach.specs.Looks.{joins, liveOf, Held, Low, LowRows, Rooms}
+use Rattle.reach.specs.Looks.{joins, liveOf, LiveHeld, Low, LowRows, Rooms}
 use Rattle.rooms.proofs.Filling.{row-part}
 
 -- state by state: the mask of the states that f picks
@@ -55,7 +55,7 @@ module _ (front : List ℕ) where
   pub live-end : (q n m : ℕ) → q ≤ n → n ≤ q → m ≡ liveOf q front → m ≡ liveOf n front
   live-end q n m h k e = let d : q ≡ n = omega arith in rw d at e
 
-  pub held-none : (n live : ℕ) → live ≡ 0 → Held n front live
+  pub held-none : (n live : ℕ) → live ≡ 0 → LiveHeld n front live
   held-none n live e = record { is = λ h. absurd (omega arith) }
 
 -- the lowest bit of a number, and the number with that bit taken off

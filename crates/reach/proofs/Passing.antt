@@ -13,19 +13,19 @@ use lib.Seq.{getD-set-same, getD-set-other, ext-getD}
 use borrow.Author.Tests.{lt-ltb, eq-eqb, ne-eqb, ltb-true, eqb-true}
 use Rattle.kinds.specs.Bits.{width, bit, maskOf}
 use Rattle.kinds.proofs.Bits.{bit-ext, bit-mask, bit-above, mask-lt}
-use Rattle.rules.specs.Bounds.{top}
-use Rattle.rules.specs.Lists.{any}
-use Rattle.rules.specs.Meaning.{rulesOf, place, places, rosters, has, keptAt, kept}
-use Rattle.rules.proofs.Lists.{any-in}
-use Rattle.rules.proofs.Members.{length-places}
-use Rattle.rules.proofs.Kept.{kept-length, kept-at}
+use Rattle.meaning.specs.Meaning.{rulesOf, place, places, rosters, has, keptAt, kept}
+use Rattle.meaning.specs.Lists.{any}
+use Rattle.meaning.specs.Bounds.{top}
+use Rattle.meaning.proofs.Members.{length-places}
+use Rattle.meaning.proofs.Kept.{kept-length, kept-at}
+use Rattle.meaning.proofs.Lists.{any-in}
 use Rattle.rooms.specs.Tables.{Filled, choices, Net, frame, layer, room, capped, Loaded}
 use Rattle.reach.specs.Looks.{looks, lands, reach, marks, struck, lowest, Low, LowRows, Swept, Opened, Stepped, Meant, Tells}
 use Rattle.rooms.proofs.Rooms.{choice-in}
 use Rattle.reach.proofs.Reach.{looks-in}
 use Rattle.rooms.proofs.Layering.{drop-places, copied-row, row-copied}
 use Rattle.reach.proofs.Front.{Front, front-opens, kept-is, front-goes}
-use Rattle.reach.proofs.Told.{told-some, told-none}
+use Rattle.reach.proofs.Verdicts.{verdict-some, verdict-none}
 
 -- a mask of w bits of which those at and above k are not set
 mask-low : (w k m : ℕ) (g : ℕ → Bool) → k ≤ w → m < 2 ^ w → ((u : ℕ) → u < k → bit m u ≡ g u) → ((u : ℕ) → k ≤ u → u < w → bit m u ≡ false) → m ≡ maskOf g k
@@ -191,8 +191,8 @@ module _ (a : Net) (qs vs spent : ℕ) (ms work first : List ℕ) (hs : spent �
   pub passing-ends : (start i l : ℕ) (front next onward out : List ℕ) → start < qs → Opened qs start spent (getD work start 0) first → i ≤ length ms → length ms ≤ i
       → length out ≡ length ms → Passing a qs vs spent ms work first front next onward out i → l ≡ lowest front qs → Tells a qs vs start spent ms work out l
   passing-ends start i l front next onward out h o hi hj ho p e = record {
-    some = λ t c ls accepting m k. told-some (rulesOf qs vs t c accepting) a (m .arcs) start spent (places ms ls) front (ends t c ls accepting m) out l (masks t c ls accepting m) e k;
-    none = λ t c ls accepting m k. told-none (rulesOf qs vs t c accepting) a (m .arcs) start spent (places ms ls) front (ends t c ls accepting m) out l (masks t c ls accepting m) e k;
+    some = λ t c ls accepting m k. verdict-some (rulesOf qs vs t c accepting) a (m .arcs) start spent (places ms ls) front (ends t c ls accepting m) out l (masks t c ls accepting m) e k;
+    none = λ t c ls accepting m k. verdict-none (rulesOf qs vs t c accepting) a (m .arcs) start spent (places ms ls) front (ends t c ls accepting m) out l (masks t c ls accepting m) e k;
   }
     where
       ends : (t c ls : List ℕ) (accepting : ℕ) → Meant a qs vs ms work t c ls accepting → Front (rulesOf qs vs t c accepting) start spent (places ms ls) front (length (places ms ls)) a

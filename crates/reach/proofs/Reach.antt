@@ -8,7 +8,7 @@ use native.Mathlib.Omega.{arith}
 use native.Mathlib.Decide.{decLe}
 use lib.Dec.{eqb}
 use borrow.Author.Tests.{eqb-true, eq-eqb}
-use Rattle.rules.proofs.Lists.{each-in, in-each}
+use Rattle.meaning.proofs.Lists.{each-in, in-each}
 use Rattle.rooms.specs.Tables.{down, Net}
 use Rattle.reach.specs.Looks.{Look, look, along, looks, spends, leads, lands, reach, marks}
 use Rattle.rooms.proofs.Rooms.{down-in, in-down}

@@ -12,8 +12,8 @@ use lib.Seq.{getD-set-same, getD-set-other}
 use borrow.Author.Tests.{eq-eqb, ne-eqb, lt-ltb, le-ltb}
 use Rattle.kinds.specs.Bits.{width, bit, maskOf}
 use Rattle.kinds.proofs.Bits.{bit-mask, bit-none, mask-is, mask-lt}
-use Rattle.rules.specs.Bounds.{top}
-use Rattle.rules.proofs.Lists.{in-any}
+use Rattle.meaning.specs.Bounds.{top}
+use Rattle.meaning.proofs.Lists.{in-any}
 use Rattle.rooms.specs.Tables.{down, choices, turned}
 use Rattle.reach.specs.Looks.{along, looks, reach, marks, arrive, joins, struck, lowest, Pushed, Swept}
 use Rattle.rooms.proofs.Rooms.{in-down}
@@ -90,22 +90,23 @@ module _ (ts cs : List ℕ) (qs m : ℕ) (front next : List ℕ) where
   unfolding reach marks
   swept-none was = record { costs = λ t. rw choices-none; values = λ v h. rw choices-none (bit-none v); small = omega arith }
 
-  pub swept-more : (v k : ℕ) {was mid is : List ℕ} {x y : ℕ} {on : Bool} → bit m v ≡ true → qs ≤ k
+  pub swept-more : (v k : ℕ) {was mid is : List ℕ} {x y : ℕ} → bit m v ≡ true → qs ≤ k
       → Swept (turned ts cs) qs (choices v m) front next was mid x
       → Pushed (take k (drop (v * 64) ts)) (take k (drop (v * 64) cs)) front qs mid is
-      → on ≡ joins (take k (drop (v * 64) ts)) (take k (drop (v * 64) cs)) front next qs
-      → y ≡ maskOf (λ u. bit x u || (on && eqb u v)) width → {out : List ℕ} {z : ℕ} → out ≡ is → z ≡ y
-      → Swept (turned ts cs) qs (choices (v + 1) m) front next was out z
-  swept-more v k {was} {mid} {is} {x} {y} {on} e h s p j z {out} d f = rw (d, f) (record {
-    costs = λ t. rw (choices-more v m e) (p .right t ∙ (arrive-is ts cs v k front (getD mid t 0) t qs h
-        ∙ (ap (λ (b : ℕ). reach (turned ts cs) (λ q. getD front q 0) b t (along qs v)) (s .costs t)
-        ∙ sym (reach-join (turned ts cs) (λ q. getD front q 0) (getD was t 0) t (along qs v) (looks qs (choices v m))))));
-    values = λ u l. rw (choices-more v m e) (ap (λ (n : ℕ). bit n u) z ∙ (bit-mask (λ u. bit x u || (on && eqb u v)) width u l
-        ∙ (ap (λ (b : Bool). bit x u || (b && eqb u v)) j ∙ (or-comm (bit x u) _
-        ∙ (rw (joins-is ts cs v k front next u qs h, s .values u l)
-        (sym (marks-join (turned ts cs) (λ t. getD next t 0) (λ q. getD front q 0) u (along qs v) (looks qs (choices v m)))))))));
-    small = rw z (mask-lt (λ u. bit x u || (on && eqb u v)) width);
-  })
+      → y ≡ maskOf (λ u. bit x u || (joins (take k (drop (v * 64) ts)) (take k (drop (v * 64) cs)) front next qs && eqb u v)) width
+      → {out : List ℕ} {z : ℕ} → out ≡ is → z ≡ y → Swept (turned ts cs) qs (choices (v + 1) m) front next was out z
+  swept-more v k {was} {mid} {is} {x} {y} e h s p z {out} d f =
+      let on : Bool = joins (take k (drop (v * 64) ts)) (take k (drop (v * 64) cs)) front next qs in
+      rw (d, f) (record {
+        costs = λ t. rw (choices-more v m e) (p .right t ∙ (arrive-is ts cs v k front (getD mid t 0) t qs h
+            ∙ (ap (λ (b : ℕ). reach (turned ts cs) (λ q. getD front q 0) b t (along qs v)) (s .costs t)
+            ∙ sym (reach-join (turned ts cs) (λ q. getD front q 0) (getD was t 0) t (along qs v) (looks qs (choices v m))))));
+        values = λ u l. rw (choices-more v m e) (ap (λ (n : ℕ). bit n u) z ∙ (bit-mask (λ u. bit x u || (on && eqb u v)) width u l
+            ∙ (or-comm (bit x u) _
+            ∙ (rw (joins-is ts cs v k front next u qs h, s .values u l)
+            (sym (marks-join (turned ts cs) (λ t. getD next t 0) (λ q. getD front q 0) u (along qs v) (looks qs (choices v m))))))));
+        small = rw z (mask-lt (λ u. bit x u || (on && eqb u v)) width);
+      })
 
   pub swept-skip : (v : ℕ) {was mid : List ℕ} {x : ℕ} → bit m v ≡ false → Swept (turned ts cs) qs (choices v m) front next was mid x
       → {out : List ℕ} {z : ℕ} → out ≡ mid → z ≡ x → Swept (turned ts cs) qs (choices (v + 1) m) front next was out z

@@ -12,12 +12,12 @@ use lib.ListN.{length, getD, set, take, drop}
 use lib.Seq.{take-suc-set, take-all}
 use borrow.Author.Tests.{ltb-true, eq-eqb, ne-eqb}
 use Rattle.kinds.specs.Bits.{bit}
-use Rattle.rules.specs.Bounds.{top}
-use Rattle.rules.specs.Lists.{those}
-use Rattle.rules.specs.Meaning.{Rules, rulesOf, Place, place, places, rosters, allowed}
-use Rattle.rules.proofs.Members.{roster-in, allowed-length}
+use Rattle.meaning.specs.Meaning.{Rules, rulesOf, Place, place, places, rosters, allowed}
+use Rattle.meaning.specs.Lists.{those}
+use Rattle.meaning.specs.Bounds.{top}
+use Rattle.meaning.proofs.Members.{roster-in, allowed-length}
 use Rattle.rooms.specs.Tables.{Filled, Net, turned, frame, room, Loaded}
-use Rattle.reach.specs.Looks.{LowRows, Meant, takeable, Tried, Walks}
+use Rattle.reach.specs.Looks.{LowRows, Meant, takeable, Walks}
 use Rattle.rooms.proofs.Rooms.{Way, room-way}
 use Rattle.rooms.proofs.Layering.{drop-places, drop-all, copied-row, row-copied}
 use Rattle.reach.proofs.Firsts.{first-goes, first-way, first-none}
@@ -26,10 +26,6 @@ use Rattle.reach.proofs.Firsts.{first-goes, first-way, first-none}
 map-two : {A B C : Type 0} (f : B → C) (g : A → B) (h : A → C) (xs : List A) → ((x : A) → f (g x) ≡ h x) → map f (map g xs) ≡ map h xs
 map-two f g h [] e = refl
 map-two f g h (x ∷ xs) e = rw (e x, map-two f g h xs e)
-
-map-same : {A B : Type 0} (f g : A → B) (xs : List A) → ((x : A) → f x ≡ g x) → map f xs ≡ map g xs
-map-same f g [] e = refl
-map-same f g (x ∷ xs) e = rw (e x, map-same f g xs e)
 
 map-all : {A : Type 0} (xs : List A) → xs ≡ map (λ x. x) xs
 map-all [] = refl
@@ -45,7 +41,10 @@ ends r q s [] e y = go (y .roster) (y .allows)
     go (v ∷ w) k = absurd (false≢true k)
 ends r q s (p ∷ ps) e y = let z : _≡_ {A = ℕ} 0 1 = cc in absurd (omega arith)
 
--- values tried one after the other
+-- values tried one after the other: no value below v can be taken
+pub record Tried (a : Net) (next : List ℕ) (m q spent v : ℕ) : Type 0 where
+  pub none : (u : ℕ) → u < v → takeable a next m q spent u ≡ false
+
 pub tried-none : (a : Net) (next : List ℕ) (m q s : ℕ) → Tried a next m q s 0
 tried-none a next m q s = record { none = λ u h. absurd (omega arith) }
 

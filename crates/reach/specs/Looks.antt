@@ -1,4 +1,4 @@
--- The forward pass and the walk, as functions. Inner: no public contract cites this file; proofs/ shows what they mean.
+-- The forward pass and the walk, as functions. Inner: no entry point's contract cites this file; proofs/ shows what they mean.
 use mathlib.Core.Bool.{Bool, true, false, cond, _&&_}
 use mathlib.Core.List.{List, [], _∷_, map}
 use mathlib.Core.Path.{_≡_}
@@ -6,10 +6,10 @@ use Prim.Native.Nat.{ℕ, zero, suc, _+_, _*_, _^_, _≤_, _<_, min}
 use lib.Dec.{ltb, eqb}
 use lib.ListN.{length, getD, take}
 use Rattle.kinds.specs.Bits.{width, bit, maskOf}
-use Rattle.rules.specs.Bounds.{mostStates, top}
-use Rattle.rules.specs.Lists.{each, any}
-use Rattle.rules.specs.Meaning.{arcsOf, rulesOf, cost, places, rosters, first, toldOf, told}
-use Rattle.rooms.specs.Tables.{down, Net, turned, Same, frame, Filled, room, before, Layers}
+use Rattle.meaning.specs.Meaning.{arcsOf, rulesOf, cost, places, rosters, verdict, verdictOf}
+use Rattle.meaning.specs.Lists.{each, any}
+use Rattle.meaning.specs.Bounds.{mostStates, top}
+use Rattle.rooms.specs.Tables.{down, Net, Same, frame, Filled, room, Layers}
 
 -- FORWARD. A look at a value from a state; `front` has the least cost at each state, one more than the top where there is none.
 pub record Look : Type 0 where
@@ -68,7 +68,7 @@ unfoldable pub liveOf : ℕ → List ℕ → ℕ
 liveOf n front = maskOf (λ q. ltb (getD front q 0) (suc top)) n
 
 -- the live states, or 0 for not worked out yet
-pub record Held (n : ℕ) (front : List ℕ) (live : ℕ) : Type 0 where
+pub record LiveHeld (n : ℕ) (front : List ℕ) (live : ℕ) : Type 0 where
   pub is : 0 < live → live ≡ liveOf n front
 
 -- costs of states, none above the top but by one
@@ -114,17 +114,13 @@ pub record Meant (a : Net) (qs vs : ℕ) (ms work t c ls : List ℕ) (accepting 
 -- the masks and the least cost that the forward pass gives, as the list of rosters tells them
 pub record Tells (a : Net) (qs vs start spent : ℕ) (ms work out : List ℕ) (least : ℕ) : Type 0 where
   pub some : (t c ls : List ℕ) (accepting : ℕ) → Meant a qs vs ms work t c ls accepting → least ≤ top
-      → toldOf 0 out least ≡ told (rulesOf qs vs t c accepting) start spent (places ms ls)
+      → verdict 0 out least ≡ verdictOf (rulesOf qs vs t c accepting) start spent (places ms ls)
   pub none : (t c ls : List ℕ) (accepting : ℕ) → Meant a qs vs ms work t c ls accepting → top < least
-      → toldOf 11 out 0 ≡ told (rulesOf qs vs t c accepting) start spent (places ms ls)
+      → verdict 11 out 0 ≡ verdictOf (rulesOf qs vs t c accepting) start spent (places ms ls)
 
 -- FIRST ROSTER. Whether a value can be taken at a state, with a cost spent.
 abbrev pub takeable : Net → List ℕ → ℕ → ℕ → ℕ → ℕ → Bool
 takeable a next m q spent v = bit m v && ltb (spent + a .fee q v) (getD next (a .to q v) 0)
-
--- no value below v can
-pub record Tried (a : Net) (next : List ℕ) (m q spent v : ℕ) : Type 0 where
-  pub none : (u : ℕ) → u < v → takeable a next m q spent u ≡ false
 
 -- what a walk along the smallest values finds: the first roster; or there is none, and nothing was written
 pub record Walks (a : Net) (qs vs start spent : ℕ) (ms work was is : List ℕ) (found : Bool) : Type 0 where

@@ -5,15 +5,15 @@ ghost use Prim.Native.Nat.{suc, _+_, _*_, _≤_, _<_};
 ghost use lib.Dec.{ltb, eqb};
 ghost use lib.ListN.{length, getD};
 ghost use Rattle.kinds.specs.Bits.{width, bit, maskOf};
-ghost use Rattle.rules.specs.Bounds.{mostStates, mostValues, tableSize, top};
-ghost use Rattle.rooms.specs.Tables.{Filled, turned, choices, Loaded, Ready};
-ghost use Rattle.reach.specs.Looks.{joins, struck, lowest, liveOf, Held, Low, LowRows, Rooms, Pushed, Swept, Opened, Stepped, Tells};
+ghost use Rattle.meaning.specs.Bounds.{mostStates, mostValues, tableSize, top};
+ghost use Rattle.rooms.specs.Tables.{Filled, turned, choices, Loaded, Sizes};
+ghost use Rattle.reach.specs.Looks.{joins, struck, lowest, liveOf, LiveHeld, Low, LowRows, Rooms, Pushed, Swept, Opened, Stepped, Tells};
 use kinds::Mask;
 use kinds::State;
 use kinds::Value;
-use rooms::backward::TOP;
 use rooms::rows;
 use rules::bounds;
+use rules::bounds::TOP;
 use rules::numbers::lesser;
 
 // The live states of a front, state q being bit q: those that it has a cost at. The bit is carried along, so that the loop stays a
@@ -61,7 +61,7 @@ pub(crate) fn joins_at(targets: &[u8], costs: &[u16], front: &[u32], next: &[u32
 
 // The live states that are held, worked out first where they are not yet (0).
 pub(crate) fn recalled(states: usize, front: &[u32], live: u64) -> u64
-    requires { ⌜ (states ≤ mostStates) × (states ≤ length (now front)) × Held states (now front) live ⌝ }
+    requires { ⌜ (states ≤ mostStates) × (states ≤ length (now front)) × LiveHeld states (now front) live ⌝ }
     ensures { λ r. ⌜ r ≡ liveOf states (now (front .entry)) ⌝ }
 {
     if live == 0 {
@@ -107,8 +107,8 @@ pub(crate) fn supported(
     v: Value,
     hints: &mut [u8],
 ) -> bool
-    requires { ⌜ (states ≤ mostStates) × (states ≤ length (now targets)) × (states ≤ length (now costs)) × (states ≤ length (now front)) × (length (now next) ≡ 256) × Low states (now front) × (v .0 < length (now hints)) × Held states (now front) (now live) × Rooms (now next) ⌝ }
-    ensures { λ r. ⌜ (r ≡ joins (now (targets .entry)) (now (costs .entry)) (now (front .entry)) (now (next .entry)) states) × Held states (now (front .entry)) (now (live .exit)) ⌝ }
+    requires { ⌜ (states ≤ mostStates) × (states ≤ length (now targets)) × (states ≤ length (now costs)) × (states ≤ length (now front)) × (length (now next) ≡ 256) × Low states (now front) × (v .0 < length (now hints)) × LiveHeld states (now front) (now live) × Rooms (now next) ⌝ }
+    ensures { λ r. ⌜ (r ≡ joins (now (targets .entry)) (now (costs .entry)) (now (front .entry)) (now (next .entry)) states) × LiveHeld states (now (front .entry)) (now (live .exit)) ⌝ }
 {
     let at = v.0 as usize;
     let hint = State(hints[at]);
@@ -138,7 +138,7 @@ pub(crate) fn strike(cost: u32, room: u32) -> u32
 }
 
 // The front one place on.
-pub(crate) fn settle(states: usize, onward: &[u32], next: &[u32], front: &mut [u32])
+pub(crate) fn advance(states: usize, onward: &[u32], next: &[u32], front: &mut [u32])
     requires { ⌜ (states ≤ length (now onward)) × (states ≤ length (now next)) × (states ≤ length (now front)) ⌝ }
     ensures { λ _. ⌜ Filled (λ q. struck (getD (now (onward .entry)) q 0) (getD (now (next .entry)) q 0)) states (now (front .entry)) (now (front .exit)) ⌝ }
 {
@@ -163,6 +163,27 @@ pub(crate) fn cheapest(states: usize, front: &[u32]) -> u32
     least
 }
 
+// The look at one value: it is put into the mask if it is kept, and its arcs lower the least costs.
+pub(crate) fn look(
+    states: usize,
+    targets: &[u8],
+    costs: &[u16],
+    front: &[u32],
+    live: &mut u64,
+    next: &[u32],
+    v: Value,
+    kept: Mask,
+    onward: &mut [u32],
+    hints: &mut [u8],
+) -> Mask
+    requires { ⌜ (states ≤ mostStates) × (states ≤ length (now targets)) × (states ≤ length (now costs)) × (states ≤ length (now front)) × (length (now next) ≡ 256) × (length (now onward) ≡ 256) × Low states (now front) × (v .0 < length (now hints)) × LiveHeld states (now front) (now live) × Rooms (now next) ⌝ }
+    ensures { λ r. ⌜ (r .0 ≡ maskOf (λ u. bit (kept .0) u || (joins (now (targets .entry)) (now (costs .entry)) (now (front .entry)) (now (next .entry)) states && eqb u (v .0))) width) × Pushed (now (targets .entry)) (now (costs .entry)) (now (front .entry)) states (now (onward .entry)) (now (onward .exit)) × LiveHeld states (now (front .entry)) (now (live .exit)) ⌝ }
+{
+    let on = supported(states, targets, costs, front, live, next, Value(v.0), hints);
+    push(states, targets, costs, front, onward);
+    marked(kept, v, on)
+}
+
 // The looks at the values of a mask: the least costs one place on, and the mask of the values that are kept.
 pub(crate) fn sweep(
     states: usize,
@@ -185,7 +206,7 @@ pub(crate) fn sweep(
         if mask.has(Value(v)) {
             let at = (v as usize) * bounds::MOST_STATES;
             let end = at + bounds::MOST_STATES;
-            let on = supported(
+            kept = look(
                 states,
                 &targets[at..end],
                 &costs[at..end],
@@ -193,10 +214,10 @@ pub(crate) fn sweep(
                 &mut live,
                 next,
                 Value(v),
+                Mask(kept),
+                onward,
                 hints,
-            );
-            kept = marked(Mask(kept), Value(v), on).0;
-            push(states, &targets[at..end], &costs[at..end], front, onward);
+            ).0;
         }
         v += 1;
     }
@@ -240,7 +261,7 @@ pub(crate) fn step(
         onward,
         hints,
     );
-    settle(states, onward, next, front);
+    advance(states, onward, next, front);
     rows::blank(states, TOP + 1, onward);
     kept
 }
@@ -261,7 +282,7 @@ pub fn pass(
     hints: &mut [u8],
     kept: &mut [u16],
 ) -> u32
-    requires { ⌜ Ready states values (now targets) (now costs) (now masks) (now masks) (now work) × LowRows states (length (now masks)) (now work) × (start .0 < states) × (spent ≤ top) × (length (now front) ≡ mostStates) × (length (now next) ≡ 256) × (length (now onward) ≡ 256) × (length (now hints) ≡ mostValues) × (length (now kept) ≡ length (now masks)) × Loaded (λ t. getD (now next) t 0) states (now next) ⌝ }
+    requires { ⌜ Sizes states values (now targets) (now costs) (now masks) (now masks) (now work) × LowRows states (length (now masks)) (now work) × (start .0 < states) × (spent ≤ top) × (length (now front) ≡ mostStates) × (length (now next) ≡ 256) × (length (now onward) ≡ 256) × (length (now hints) ≡ mostValues) × (length (now kept) ≡ length (now masks)) × Loaded (λ t. getD (now next) t 0) states (now next) ⌝ }
     ensures { λ r. ⌜ Tells (turned (now (targets .entry)) (now (costs .entry))) states values (start .0) spent (now (masks .entry)) (now (work .entry)) (now (kept .exit)) r ⌝ }
 {
     open_front(states, start, spent, work[start.0 as usize], front);

@@ -2,8 +2,8 @@
 ghost use mathlib.Core.Path.{_≡_};
 ghost use Prim.Native.Nat.{_+_, _*_, _≤_, _<_};
 ghost use lib.ListN.{length, getD};
-ghost use Rattle.rules.specs.Bounds.{mostStates, mostValues, tableSize, top};
-ghost use Rattle.rooms.specs.Tables.{turned, Loaded, Ready};
+ghost use Rattle.meaning.specs.Bounds.{mostStates, mostValues, tableSize, top};
+ghost use Rattle.rooms.specs.Tables.{turned, Loaded, Sizes};
 ghost use Rattle.reach.specs.Looks.{takeable, LowRows, Walks};
 use kinds::Mask;
 use kinds::State;
@@ -12,7 +12,7 @@ use rooms::rows;
 use rules::bounds;
 
 // Whether a value can be taken at a state, with a cost spent, so that a roster goes on.
-pub(crate) fn fits(
+pub(crate) fn takeable(
     targets: &[u8],
     costs: &[u16],
     next: &[u32],
@@ -44,7 +44,7 @@ pub fn walk(
     next: &mut [u32],
     roster: &mut [u8],
 ) -> bool
-    requires { ⌜ Ready states values (now targets) (now costs) (now masks) (now masks) (now work) × LowRows states (length (now masks)) (now work) × (start .0 < states) × (spent ≤ top) × (length (now next) ≡ 256) × (length (now roster) ≡ length (now masks)) × Loaded (λ t. getD (now next) t 0) states (now next) ⌝ }
+    requires { ⌜ Sizes states values (now targets) (now costs) (now masks) (now masks) (now work) × LowRows states (length (now masks)) (now work) × (start .0 < states) × (spent ≤ top) × (length (now next) ≡ 256) × (length (now roster) ≡ length (now masks)) × Loaded (λ t. getD (now next) t 0) states (now next) ⌝ }
     ensures { λ r. ⌜ Walks (turned (now (targets .entry)) (now (costs .entry))) states values (start .0) spent (now (masks .entry)) (now (work .entry)) (now (roster .entry)) (now (roster .exit)) r ⌝ }
 {
     let mut q = start.0;
@@ -60,7 +60,7 @@ pub fn walk(
             if values <= (v as usize) {
                 break 'places;
             }
-            if fits(targets, costs, next, Mask(mask), State(q), cost, Value(v)) {
+            if takeable(targets, costs, next, Mask(mask), State(q), cost, Value(v)) {
                 break v;
             }
             v += 1;

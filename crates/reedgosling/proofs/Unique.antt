@@ -2,14 +2,14 @@
 use mathlib.Core.Path.{_≡_, sym, ap, _∙_}
 use mathlib.Core.List.{List}
 use Prim.Native.Nat.{ℕ}
-use Rattle.rules.specs.Checks.{Handed}
-use Rattle.rules.specs.Meaning.{Rules}
+use Rattle.meaning.specs.Meaning.{Rules}
 use Rattle.rules.specs.Report.{Outcome, outcome, reportOf}
+use Rattle.rules.specs.Checks.{Handed}
+use Rattle.ledger.specs.Readiness.{Left as LeftIn, left as leftIn}
 use Rattle.filter.specs.Filter.{Left, left, filterOf}
 use Rattle.filter.specs.First.{Given, given, firstOf}
 use Rattle.sheet.specs.Reading.{Outcome as Reading, readOf}
 use Rattle.scribe.specs.Writing.{Outcome as Writing, writeLeft, writeOf}
-use Rattle.machine.specs.Calls.{Left as LeftIn, left as leftIn}
 
 pub filter-unique : (h : Handed) (ms ls ks work : List ℕ) (a b l m : ℕ) (k k2 w w2 : List ℕ)
     → left a l k w ≡ filterOf h ms ls ks work → left b m k2 w2 ≡ filterOf h ms ls ks work → (a ≡ b) × (l ≡ m) × (k ≡ k2) × (w ≡ w2)

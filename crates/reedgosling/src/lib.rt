@@ -1,15 +1,15 @@
 // The C boundary: numbers as themselves, a slice as a pointer and a length; the answer's number is returned, carried numbers are written.
 ghost use mathlib.Core.Path.{_≡_};
-ghost use Rattle.rules.specs.Checks.{handed};
-ghost use Rattle.rules.specs.Meaning.{rulesOf, Keep, Limit};
+ghost use Rattle.meaning.specs.Meaning.{rulesOf, Keep, Limit};
 ghost use Rattle.rules.specs.Report.{outcome, reportOf};
+ghost use Rattle.rules.specs.Checks.{handed};
+ghost use Rattle.ledger.specs.Sessions.{opening, deciding, marking, goingBack};
+ghost use Rattle.ledger.specs.Readiness.{left as leftIn};
+ghost use Rattle.ledger.specs.Calls.{opened, called};
 ghost use Rattle.filter.specs.Filter.{left, filterOf};
 ghost use Rattle.filter.specs.First.{given, firstOf};
 ghost use Rattle.sheet.specs.Reading.{readLeft, readOf};
 ghost use Rattle.scribe.specs.Writing.{writeLeft, writeOf};
-ghost use Rattle.machine.specs.Sessions.{opening, deciding, marking, goingBack};
-ghost use Rattle.machine.specs.Calls.{left as leftIn};
-ghost use Rattle.session.specs.Calls.{opened, called};
 ghost use Rattle.text.specs.Writing.{Wrote};
 ghost use Rattle.job.specs.Job.{jobText};
 use kinds::State;
@@ -38,7 +38,7 @@ pub extern "C" fn reedgosling_filter(
         values,
         start: State(start),
     };
-    let told = filter::filter(
+    let verdict = filter::filter(
         places,
         size,
         targets,
@@ -49,8 +49,8 @@ pub extern "C" fn reedgosling_filter(
         kept,
         work,
     );
-    let answer = told.answer;
-    *least = told.least;
+    let answer = verdict.answer;
+    *least = verdict.least;
     answer.number() as u32
 }
 
@@ -112,9 +112,9 @@ pub extern "C" fn reedgosling_prefix_report(
         values,
         start: State(start),
     };
-    let told = rules::prefix_report(places, size, targets, costs, accepting, roster);
-    let answer = told.answer;
-    *report = told.report;
+    let reported = rules::prefix_report(places, size, targets, costs, accepting, roster);
+    let answer = reported.answer;
+    *report = reported.report;
     answer.number() as u32
 }
 

@@ -4,8 +4,8 @@ use mathlib.Core.List.{List, _++_}
 use Prim.Native.Nat.{ℕ, _+_, _*_, _-_, _≤_, _<_}
 use native.Mathlib.Omega.{arith}
 use native.Mathlib.Decide.{ℕ-discrete}
-use lib.ListN.{length, getD, set, take, drop, replicate, length-replicate, getD-replicate, List·getD-append}
-use lib.Seq.{getD-set-same, getD-set-other, getD-take, getD-drop, drop-at, length-take-le, ext-getD}
+use lib.ListN.{length, getD, set, take, drop, List·getD-append}
+use lib.Seq.{getD-set-same, getD-set-other, getD-take, getD-drop, drop-at, length-take-le}
 use borrow.Rule.Slice.PartMut.{putMid, postOf, take-put, drop-put}
 use Rattle.rooms.specs.Tables.{Filled}
 
@@ -21,11 +21,6 @@ filled-more {f} {n} {was} {is} x h r e = record { done = λ k l. go k l (ℕ-dis
 
 pub filled-end : {f : ℕ → ℕ} {i n : ℕ} {was is : List ℕ} → Filled f i was is → i ≤ n → n ≤ i → Filled f n was is
 filled-end {f} {i} {n} r h k = let e : i ≡ n = omega arith in rw e at r
-
-pub filled-zeros : {was is : List ℕ} → length is ≡ length was → Filled (λ k. 0) (length was) was is → is ≡ replicate (length was) 0
-filled-zeros {was} {is} e r =
-    ext-getD 0 is (replicate (length was) 0) (e ∙ sym (length-replicate (length was) 0))
-    (λ k h. r .done k (omega arith) ∙ sym (getD-replicate (length was) k 0 0 (omega arith)))
 
 -- a row of a table, of which each value has one
 pub row-part : (xs : List ℕ) (v k q : ℕ) → q < k → getD (take k (drop (v * 64) xs)) q 0 ≡ getD xs (v * 64 + q) 0

@@ -10,8 +10,8 @@ use lib.ListN.{length, getD, take, drop}
 use borrow.Author.Tests.{lt-ltb, le-ltb}
 use borrow.Rule.Slice.PartMut.{putMid, midOf}
 use Rattle.kinds.specs.Bits.{bit}
-use Rattle.rules.specs.Bounds.{top}
-use Rattle.rules.specs.Meaning.{Place, place, places}
+use Rattle.meaning.specs.Meaning.{Place, place, places}
+use Rattle.meaning.specs.Bounds.{top}
 use Rattle.rooms.specs.Tables.{Filled, choices, best, capped, before, Frame, room, layer, Layers, Laid, Loaded}
 use Rattle.rooms.proofs.Filling.{row-part, put-in, put-behind}
 use Rattle.rooms.proofs.Turning.{part-long}

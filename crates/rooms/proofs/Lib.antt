@@ -3,3 +3,4 @@ pub mod Filling
 pub mod Raising
 pub mod Turning
 pub mod Layering
+pub mod Unique

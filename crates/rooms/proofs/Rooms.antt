@@ -1,23 +1,25 @@
 -- What a room means: a cost spent is below the room of a state exactly if some roster goes on from there.
-use mathlib.Core.Path.{_≡_, refl, sym, _∙_}
+use mathlib.Core.Path.{_≡_, refl}
 use mathlib.Core.Bool.{Bool, true, false, cond, _&&_, false≢true}
 use mathlib.Core.Logic.{⊎-elim}
 use mathlib.Core.List.{List, [], _∷_}
 use mathlib.Core.List.{List·Memᴰ as In, List·Memᴰ·head as head, List·Memᴰ·tail as tail, List·Memᴰ·not-nil as not-nil, List·Memᴰ·cases-cons as cases}
-use Prim.Native.Nat.{ℕ, zero, suc, _+_, _-_, _/_, _^_, _≤_, _<_, min}
+use Prim.Native.Nat.{ℕ, zero, suc, _+_, _-_, _≤_, _<_, min}
 use native.Mathlib.Omega.{arith}
 use native.Mathlib.Decide.{decLt, ℕ-discrete}
 use lib.Dec.{ltb}
-use borrow.Author.Tests.{ltb-true, lt-ltb, eq-eqb, ne-eqb}
-use lib.Bits.{bitAnd}
-use Rattle.kinds.proofs.Bits.{bit-test}
+use borrow.Author.Tests.{ltb-true, lt-ltb}
 use Rattle.kinds.specs.Bits.{bit}
-use Rattle.rules.specs.Bounds.{top}
-use Rattle.rules.specs.Meaning.{Arcs, Rules, target, cost, total, Place, allowed}
-use Rattle.rules.proofs.Lists.{those-in, in-those}
-use Rattle.rules.proofs.Members.{Below, goes}
-use Rattle.rooms.specs.Tables.{down, choices, Net, Same, framed, best, capped, before, room}
+use Rattle.meaning.specs.Meaning.{Arcs, Rules, target, cost, total, Place, allowed}
+use Rattle.meaning.specs.Bounds.{top}
+use Rattle.meaning.proofs.Members.{Below, goes}
+use Rattle.meaning.proofs.Lists.{those-in, in-those}
+use Rattle.rooms.specs.Tables.{down, choices, Net, Frame, frame, Same, best, capped, before, room}
 use lib.ListN.{getD}
+
+-- a rule set with its arcs in a net
+abbrev pub framed : Net → Rules → Frame
+framed n r = frame n (r .arcs .states) (r .arcs .values) (r .accepting)
 
 -- the numbers below n, and the values of a mask
 pub down-in : (n : ℕ) {k : ℕ} → In k (down n) → k < n
@@ -138,13 +140,6 @@ allowed-lower r q c d (p ∷ ps) (v ∷ w) h e =
       arc = g .arc;
       rest = allowed-lower r (target (r .arcs) q v) (c + cost (r .arcs) q v) (d + cost (r .arcs) q v) ps w (omega arith) (g .rest);
     })
-
--- a bit, by the code's test
-pub bit-yes : (m v : ℕ) → bitAnd (m / 2 ^ v) 1 ≡ 1 → bit m v ≡ true
-bit-yes m v h = sym (bit-test m v) ∙ eq-eqb _ _ h
-
-pub bit-no : (m v : ℕ) → (bitAnd (m / 2 ^ v) 1 ≡ 1 → ⊥) → bit m v ≡ false
-bit-no m v h = sym (bit-test m v) ∙ ne-eqb _ _ h
 
 -- the limit of the step into a layer
 pub cap-first : (ls : List ℕ) (i : ℕ) → i ≡ 0 → 366001 ≡ suc (min (before ls i) top)

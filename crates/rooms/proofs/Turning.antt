@@ -6,7 +6,7 @@ use native.Mathlib.Omega.{arith}
 use native.Mathlib.Decide.{ℕ-discrete}
 use lib.ListN.{length, getD}
 use borrow.Rule.Slice.PartMut.{putMid, midOf, mid-len}
-use Rattle.rules.specs.Meaning.{Arcs, target, cost}
+use Rattle.meaning.specs.Meaning.{Arcs, target, cost}
 use Rattle.rooms.specs.Tables.{Filled, turned, Same}
 use Rattle.rooms.proofs.Filling.{put-before, put-in}
 

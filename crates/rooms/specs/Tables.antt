@@ -1,4 +1,4 @@
--- The backward table, as functions. Inner: no public contract cites this file; proofs/ shows what the table means.
+-- The backward table, as functions. Inner: no entry point's contract cites this file; proofs/ shows what the table means.
 use mathlib.Core.Bool.{cond, _&&_}
 use mathlib.Core.List.{List, [], _∷_}
 use mathlib.Core.Path.{_≡_}
@@ -6,9 +6,9 @@ use Prim.Native.Nat.{ℕ, zero, suc, _+_, _*_, _-_, _≤_, _<_, min, max}
 use lib.Dec.{ltb}
 use lib.ListN.{length, getD, drop}
 use Rattle.kinds.specs.Bits.{bit}
-use Rattle.rules.specs.Bounds.{mostPlaces, mostStates, mostValues, tableSize, workSize, top}
-use Rattle.rules.specs.Lists.{those}
-use Rattle.rules.specs.Meaning.{Arcs, Rules, target, cost, Place, places}
+use Rattle.meaning.specs.Meaning.{Arcs, target, cost, Place, places}
+use Rattle.meaning.specs.Lists.{those}
+use Rattle.meaning.specs.Bounds.{mostPlaces, mostStates, mostValues, tableSize, workSize, top}
 
 -- n - 1, .., 1, 0
 unfoldable pub down : ℕ → List ℕ
@@ -42,9 +42,6 @@ pub record Frame : Type 0 where
 
 abbrev pub frame : Net → ℕ → ℕ → ℕ → Frame
 frame n q v a = record { net = n; states = q; values = v; accepting = a }
-
-abbrev pub framed : Net → Rules → Frame
-framed n r = frame n (r .arcs .states) (r .arcs .values) (r .accepting)
 
 -- a list that was filled up to n: f below n, what it was from n on
 pub record Filled (f : ℕ → ℕ) (n : ℕ) (was is : List ℕ) : Type 0 where
@@ -89,7 +86,7 @@ pub record Loaded (g : ℕ → ℕ) (n : ℕ) (next : List ℕ) : Type 0 where
   pub none : (k : ℕ) → n ≤ k → getD next k 0 ≡ 0
 
 -- what the passes are lent, in its sizes
-pub record Ready (qs vs : ℕ) (ts cs ms ls work : List ℕ) : Type 0 where
+pub record Sizes (qs vs : ℕ) (ts cs ms ls work : List ℕ) : Type 0 where
   pub few-states : qs ≤ mostStates
   pub few-values : vs ≤ mostValues
   pub all-targets : length ts ≡ tableSize

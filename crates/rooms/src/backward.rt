@@ -4,16 +4,14 @@ ghost use mathlib.Core.Bool.{cond};
 ghost use Prim.Native.Nat.{suc, _+_, _*_, _-_, _≤_, _<_, min, max};
 ghost use lib.ListN.{length, getD};
 ghost use Rattle.kinds.specs.Bits.{bit};
-ghost use Rattle.rules.specs.Bounds.{mostPlaces, mostStates, mostValues, tableSize, top};
-ghost use Rattle.rooms.specs.Tables.{Filled, turned, choices, best, before, frame, layer, Layers, Laid, Loaded, Ready};
+ghost use Rattle.meaning.specs.Bounds.{mostPlaces, mostStates, mostValues, tableSize, top};
+ghost use Rattle.rooms.specs.Tables.{Filled, turned, choices, best, before, frame, layer, Layers, Laid, Loaded, Sizes};
 use crate::rows;
 use kinds::Mask;
 use kinds::Value;
 use rules::bounds;
+use rules::bounds::TOP;
 use rules::numbers::lesser;
-
-// No running cost passes this.
-pub const TOP: u32 = (bounds::MOST_PLACES as u32) * (bounds::MOST_COST as u32);
 
 // The room after the last place.
 pub(crate) fn ending(accepting: u64, cap: u32, q: usize) -> u32
@@ -158,7 +156,7 @@ pub fn fill_rooms(
     next: &mut [u32],
     work: &mut [u32],
 )
-    requires { ⌜ Ready states values (now targets) (now costs) (now masks) (now limits) (now work) × (length (now next) ≡ 256) × Loaded (λ t. 0) states (now next) ⌝ }
+    requires { ⌜ Sizes states values (now targets) (now costs) (now masks) (now limits) (now work) × (length (now next) ≡ 256) × Loaded (λ t. 0) states (now next) ⌝ }
     ensures { λ _. ⌜ Layers (frame (turned (now (targets .entry)) (now (costs .entry))) states values accepting) (now (masks .entry)) (now (limits .entry)) 0 (now (work .exit)) × Loaded (layer (frame (turned (now (targets .entry)) (now (costs .entry))) states values accepting) (now (masks .entry)) (now (limits .entry)) 0) states (now (next .exit)) ⌝ }
 {
     let mut i = masks.len();

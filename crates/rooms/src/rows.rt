@@ -35,9 +35,9 @@ pub fn copy(count: usize, from: &[u32], row: &mut [u32])
     requires { ⌜ (count ≤ length (now from)) × (count ≤ length (now row)) ⌝ }
     ensures { λ _. ⌜ Filled (λ k. getD (now (from .entry)) k 0) count (now (row .entry)) (now (row .exit)) ⌝ }
 {
-    let mut k: usize = 0;
-    while k < count {
-        row[k] = from[k];
-        k += 1;
+    let mut i: usize = 0;
+    while i < count {
+        row[i] = from[i];
+        i += 1;
     }
 }

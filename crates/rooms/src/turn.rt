@@ -2,8 +2,8 @@
 ghost use mathlib.Core.Path.{_≡_};
 ghost use Prim.Native.Nat.{_+_, _*_, _≤_, _<_};
 ghost use lib.ListN.{length};
-ghost use Rattle.rules.specs.Bounds.{mostStates, mostValues, tableSize};
-ghost use Rattle.rules.specs.Meaning.{arcsOf, target, cost};
+ghost use Rattle.meaning.specs.Meaning.{arcsOf, target, cost};
+ghost use Rattle.meaning.specs.Bounds.{mostStates, mostValues, tableSize};
 ghost use Rattle.rooms.specs.Tables.{Filled, turned, Same};
 use kinds::Value;
 use rules::bounds;

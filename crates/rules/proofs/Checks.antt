@@ -1,5 +1,5 @@
 -- What the tests of the checks say, and how `decided` goes by them. Assumes nothing.
-use mathlib.Core.Path.{_≡_, refl, sym, ap, _∙_}
+use mathlib.Core.Path.{_≡_, refl, sym, _∙_}
 use mathlib.Core.Bool.{Bool, true, false, not, _&&_, _||_, and-eq-true-iff, or-false}
 use mathlib.Core.List.{List, [], _∷_}
 use Prim.Native.Nat.{ℕ, _+_, _-_, _*_, _^_, _≤_, _<_}
@@ -11,10 +11,10 @@ use lib.Arith.{digits-lt}
 use lib.ListN.{length, getD, drop, drop-of-length-le}
 use lib.Seq.{drop-cons}
 use borrow.Author.Tests.{not-true, not-false, leb-true, ltb-true, eqb-true, le-leb, lt-ltb, le-ltb, eq-eqb, ne-eqb}
-use Rattle.rules.specs.Bounds.{mostPlaces, mostStates, mostValues, mostCost, noTarget, tableSize}
-use Rattle.rules.specs.Lists.{all}
-use Rattle.rules.specs.Answers.{Check, check, decided}
+use Rattle.meaning.specs.Lists.{all}
+use Rattle.meaning.specs.Bounds.{mostPlaces, mostStates, mostValues, mostCost, noTarget, tableSize}
 use Rattle.rules.specs.Checks.{sizeRight, sizesRight, tablesLong, arcRight, tablesFrom, tablesRight, rulesRight}
+use Rattle.rules.specs.Answers.{Check, check, decided}
 
 pub both : (a b : Bool) → (a && b) ≡ true → (a ≡ true) × (b ≡ true)
 both a b h = and-eq-true-iff a b .0 h

@@ -11,12 +11,12 @@ use lib.Dec.{eqb, leb, ltb}
 use lib.ListN.{length, getD, take}
 use lib.Seq.{take-length}
 use borrow.Author.Tests.{eq-eqb, eqb-true, leb-true, ltb-true, lt-ltb, le-leb}
-use Rattle.rules.specs.Bounds.{mostPlaces, mostCost, noTarget, top}
-use Rattle.rules.specs.Lists.{from, all}
-use Rattle.rules.specs.Meaning.{Rules, rulesOf, target, cost, hasArc, accepted, total}
+use Rattle.meaning.specs.Bounds.{mostPlaces, mostCost, noTarget, top}
+use Rattle.meaning.specs.Lists.{from, all}
+use Rattle.meaning.specs.Meaning.{Rules, rulesOf, target, cost, hasArc, accepted, total}
 use Rattle.rules.specs.Checks.{arcRight, tablesFrom, tablesRight}
 use Rattle.rules.proofs.Checks.{both, or-cases}
-use Rattle.rules.proofs.Members.{Below}
+use Rattle.meaning.proofs.Members.{Below}
 
 abbrev pub ArcIn : ℕ → ℕ → ℕ → Type 0
 ArcIn q t c = ((t ≡ noTarget) × (c ≡ 0)) ⊎ ((t < q) × (c ≤ mostCost))

@@ -1,9 +1,3 @@
-pub mod Lists
-pub mod Members
-pub mod Order
-pub mod Kept
-pub mod Narrow
-pub mod Decisions
 pub mod Checks
 pub mod Lawful
 pub mod Within

@@ -10,13 +10,13 @@ use lib.Dec.{ltb}
 use lib.ListN.{length, getD, List·getD-append}
 use borrow.Author.Tests.{ltb-true}
 use Rattle.rules.specs.Checks.{arcRight, tablesFrom, tablesRight}
-use Rattle.rules.specs.Lists.{from, all}
-use Rattle.rules.specs.Meaning.{Rules, rulesOf, target, cost, hasArc, accepted, total, Place, takes, fits, allowed, words, rosters, kept, least, answer, toldOf, tell, told}
+use Rattle.meaning.specs.Lists.{from, all}
+use Rattle.meaning.specs.Meaning.{Rules, rulesOf, target, cost, hasArc, accepted, total, Place, takes, fits, allowed, words, rosters, kept, least, answer, verdict, verdictOn, verdictOf}
 use Rattle.rules.specs.Report.{steps}
-use Rattle.rules.specs.Worked.{W}
+use Rattle.meaning.specs.Worked.{W}
 use Rattle.rules.proofs.Checks.{both}
-use Rattle.rules.proofs.Lists.{those-same, map-same}
-use Rattle.rules.proofs.Members.{Below, words-in, roster-in}
+use Rattle.meaning.proofs.Lists.{those-same, map-same}
+use Rattle.meaning.proofs.Members.{Below, words-in, roster-in}
 
 -- tables that are alike in their first n places
 abbrev pub Alike : ℕ → List ℕ → List ℕ → Type 0
@@ -70,14 +70,14 @@ module _ (qs vs m : ℕ) (t c u d : List ℕ) (same-targets : Alike (qs * vs) t 
   rosters-alike q s ps h = those-same _ _ (words vs (length ps)) (λ w k. allowed-alike q s ps w h (words-in vs (length ps) w k .1))
 
   -- A FILTER TELLS THE SAME
-  pub told-alike : (q s : ℕ) (ps : List Place) → q < qs → told one q s ps ≡ told other q s ps
-  unfolding told
-  told-alike q s ps h =
+  pub verdict-alike : (q s : ℕ) (ps : List Place) → q < qs → verdictOf one q s ps ≡ verdictOf other q s ps
+  unfolding verdictOf
+  verdict-alike q s ps h =
       let ws : List (List ℕ) = rosters one q s ps in
       let accepts : (w : List ℕ) → In w ws → Below vs w × (accepted one q w ≡ true) =
       λ w k. let r = roster-in one q s ps w .0 k in (r .1, both (fits (one .arcs) q s ps w) _ (r .2) .1) in
-      ap (λ (xs : List ℕ). toldOf (answer ws) (kept vs (length ps) ws) (least xs)) (map-same _ _ ws (λ w k. total-alike q s w h (accepts w k .0) (accepts w k .1)))
-      ∙ ap (tell (other .arcs) q s (length ps)) (rosters-alike q s ps h)
+      ap (λ (xs : List ℕ). verdict (answer ws) (kept vs (length ps) ws) (least xs)) (map-same _ _ ws (λ w k. total-alike q s w h (accepts w k .0) (accepts w k .1)))
+      ∙ ap (verdictOn (other .arcs) q s (length ps)) (rosters-alike q s ps h)
 
   -- and so does a prefix report
   pub steps-alike : (q : ℕ) (w : List ℕ) → q < qs → Below vs w → steps (one .arcs) q w ≡ steps (other .arcs) q w
@@ -104,6 +104,6 @@ module _ (xs ys : List ℕ) where
   unfolding W
   worked-rosters ps = rosters-alike 6 3 61 _ _ _ _ (alike-more (W .arcs .targets) xs) (alike-more (W .arcs .costs) ys) 0 0 ps (omega arith)
 
-  pub worked-told : (ps : List Place) → told longer 0 0 ps ≡ told W 0 0 ps
+  pub worked-verdict : (ps : List Place) → verdictOf longer 0 0 ps ≡ verdictOf W 0 0 ps
   unfolding W
-  worked-told ps = told-alike 6 3 61 _ _ _ _ (alike-more (W .arcs .targets) xs) (alike-more (W .arcs .costs) ys) 0 0 ps (omega arith)
+  worked-verdict ps = verdict-alike 6 3 61 _ _ _ _ (alike-more (W .arcs .targets) xs) (alike-more (W .arcs .costs) ys) 0 0 ps (omega arith)

@@ -42,9 +42,9 @@ unfoldable pub decided : {A : Type 0} → List Check → (ℕ → A) → A → A
 decided [] refuse done = done
 decided (check n ok ∷ ks) refuse done = cond ok (decided ks refuse done) (refuse n)
 
--- a lent work table is left all zeros, except under answers 1 and 2
 abbrev pub zeros : List ℕ → List ℕ
 zeros work = replicate (length work) 0
 
-abbrev pub swept : ℕ → List ℕ → List ℕ
-swept n work = cond (leb n 2) work (zeros work)
+-- a refusal leaves a lent work table all zeros, except under answers 1 and 2
+abbrev pub workAfter : ℕ → List ℕ → List ℕ
+workAfter n work = cond (leb n 2) work (zeros work)

@@ -1,14 +1,15 @@
 -- What a call is handed, and the checks of answers 1 to 4 as tests that compute.
 use mathlib.Core.Bool.{Bool, _&&_, _||_}
-use mathlib.Core.List.{List}
+use mathlib.Core.List.{List, _∷_}
 use Prim.Native.Nat.{ℕ, _*_, _^_}
 use lib.Dec.{leb, ltb, eqb}
 use lib.ListN.{length, getD}
-use Rattle.rules.specs.Bounds.{mostPlaces, mostStates, mostValues, mostCost, noTarget, tableSize}
-use Rattle.rules.specs.Lists.{from, all}
-use Rattle.rules.specs.Meaning.{Rules, rulesOf}
+use Rattle.meaning.specs.Meaning.{Rules, rulesOf}
+use Rattle.meaning.specs.Lists.{from, all}
+use Rattle.meaning.specs.Bounds.{mostPlaces, mostStates, mostValues, mostCost, noTarget, tableSize}
+use Rattle.rules.specs.Answers.{Check, check}
 
--- every call is handed n, Q, V, start, the rule tables and the accepting mask
+-- what a call on a rule set is handed: n, Q, V, start, the rule tables and the accepting mask
 pub record Handed : Type 0 where
   pub places : ℕ
   pub start : ℕ
@@ -47,3 +48,12 @@ rulesRight q v s t c a = sizeRight q v s && (tablesLong t c && tablesRight q v t
 -- answer 4: a choice mask has a bit at or above V
 unfoldable pub masksRight : ℕ → List ℕ → Bool
 masksRight v ms = all (λ m. ltb m (2 ^ v)) ms
+
+-- the checks 1, 2 and 3 of a call that is lent a rule set, where `long` says whether the slices beside the tables have their lengths; then its others
+abbrev pub ruleChecks : Handed → Bool → List Check → List Check
+ruleChecks h long others =
+    let a = h .rules .arcs in
+    check 1 (sizesRight (h .places) (a .states) (a .values) (h .start))
+    ∷ check 2 (tablesLong (a .targets) (a .costs) && long)
+    ∷ check 3 (tablesRight (a .states) (a .values) (a .targets) (a .costs) (h .rules .accepting))
+    ∷ others

@@ -1,14 +1,14 @@
 -- The prefix report: how much of a drawn roster lies behind the first missing arc.
-use mathlib.Core.Bool.{Bool, cond, _&&_}
+use mathlib.Core.Bool.{Bool, cond}
 use mathlib.Core.List.{List, [], _∷_}
 use mathlib.Core.Path.{_≡_}
 use Prim.Native.Nat.{ℕ, suc, _-_, _≤_}
 use lib.Dec.{eqb, ltb}
 use lib.ListN.{length}
-use Rattle.rules.specs.Lists.{all}
-use Rattle.rules.specs.Meaning.{Arcs, arcsOf, target, hasArc}
+use Rattle.meaning.specs.Meaning.{Arcs, arcsOf, target, hasArc}
+use Rattle.meaning.specs.Lists.{all}
+use Rattle.rules.specs.Checks.{Handed, ruleChecks}
 use Rattle.rules.specs.Answers.{Check, check, decided}
-use Rattle.rules.specs.Checks.{Handed, sizesRight, tablesLong, tablesRight}
 
 -- the steps made from state q before the first missing arc
 unfoldable pub steps : Arcs → ℕ → List ℕ → ℕ
@@ -29,12 +29,7 @@ valuesRight v w = all (λ x. ltb x v) w
 
 abbrev pub reportChecks : Handed → List ℕ → List Check
 reportChecks h w =
-    let a = h .rules .arcs in
-    check 1 (sizesRight (h .places) (a .states) (a .values) (h .start))
-    ∷ check 2 (tablesLong (a .targets) (a .costs) && eqb (length w) (h .places))
-    ∷ check 3 (tablesRight (a .states) (a .values) (a .targets) (a .costs) (h .rules .accepting))
-    ∷ check 7 (valuesRight (a .values) w)
-    ∷ []
+    ruleChecks h (eqb (length w) (h .places)) (check 7 (valuesRight (h .rules .arcs .values) w) ∷ [])
 
 -- n less the steps made
 unfoldable pub reportOf : Handed → List ℕ → Outcome

@@ -1,10 +1,9 @@
 // The rule tables: the check of answer 3.
 ghost use mathlib.Core.Path.{_≡_};
-ghost use mathlib.Core.Bool.{Bool};
-ghost use Prim.Native.Nat.{ℕ, _*_, _^_, _≤_, _<_};
+ghost use Prim.Native.Nat.{_*_, _^_, _≤_, _<_};
 ghost use lib.ListN.{length};
 ghost use lib.Dec.{ltb};
-ghost use Rattle.rules.specs.Bounds.{mostStates, mostValues, tableSize};
+ghost use Rattle.meaning.specs.Bounds.{mostStates, mostValues, tableSize};
 ghost use Rattle.rules.specs.Checks.{arcRight, tablesRight};
 use crate::bounds;
 

@@ -1,4 +1,4 @@
-// The sizes of the paper, each named once. The contracts' names for them are in specs/Bounds.antt.
+// The sizes of the paper, each named once. The contracts' names for them are in crates/meaning/specs/Bounds.antt.
 pub const MOST_PLACES: usize = 366;
 
 pub const MOST_STATES: usize = 64;
@@ -12,3 +12,6 @@ pub const NO_TARGET: u8 = 255;
 
 // The places of a lent rule table.
 pub const TABLE_SIZE: usize = MOST_STATES * MOST_VALUES;
+
+// No running cost passes this.
+pub const TOP: u32 = (MOST_PLACES as u32) * (MOST_COST as u32);

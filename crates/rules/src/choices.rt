@@ -5,7 +5,7 @@ ghost use lib.Dec.{ltb};
 use crate::bounds;
 
 // Whether the mask has no bit at or above the number of values.
-pub(crate) fn mask_right(values: usize, mask: u16) -> bool
+pub fn mask_right(values: usize, mask: u16) -> bool
     ensures { λ r. ⌜ r ≡ ltb mask (2 ^ values) ⌝ }
 {
     if bounds::MOST_VALUES <= values {

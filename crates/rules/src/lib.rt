@@ -1,12 +1,12 @@
 // Rule sets as they are lent: the answers, the checks that every call shares, and the prefix report.
 ghost use mathlib.Core.Path.{_≡_};
-ghost use Rattle.rules.specs.Answers.{numberOf};
-ghost use Rattle.rules.specs.Checks.{handed, sizeRight, sizesRight, tablesLong, rulesRight, masksRight};
 ghost use Rattle.rules.specs.Report.{outcome, reportOf};
+ghost use Rattle.rules.specs.Checks.{handed, sizeRight, sizesRight, tablesLong, rulesRight, masksRight};
+ghost use Rattle.rules.specs.Answers.{numberOf};
 
 mod arcs;
 pub mod bounds;
-mod choices;
+pub mod choices;
 pub mod numbers;
 mod steps;
 

@@ -3,7 +3,7 @@ ghost use mathlib.Core.Path.{_≡_};
 ghost use mathlib.Core.Bool.{true};
 ghost use Prim.Native.Nat.{_+_, _*_, _≤_, _<_};
 ghost use lib.ListN.{length, getD};
-ghost use Rattle.rules.specs.Bounds.{mostStates, mostValues, tableSize};
+ghost use Rattle.meaning.specs.Bounds.{mostStates, mostValues, tableSize};
 ghost use Rattle.rules.specs.Report.{valuesRight, Steps};
 use kinds::State;
 use kinds::Value;

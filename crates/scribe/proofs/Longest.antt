@@ -11,10 +11,10 @@ use lib.Dec.{ltb}
 use lib.ListN.{length, getD, replicate, length-append, getD-replicate}
 use borrow.Author.Tests.{lt-ltb, le-ltb}
 use Rattle.kinds.proofs.Bits.{bit-ones}
-use Rattle.rules.specs.Bounds.{mostStates, mostValues, mostCost, tableSize}
-use Rattle.rules.specs.Lists.{from, each}
+use Rattle.meaning.specs.Bounds.{mostStates, mostValues, mostCost, tableSize}
+use Rattle.meaning.specs.Lists.{from, each}
 use Rattle.rules.specs.Checks.{sizeRight, tablesLong, rulesRight}
-use Rattle.rules.specs.Meaning.{Arcs, Rules, rulesOf}
+use Rattle.meaning.specs.Meaning.{Arcs, Rules, rulesOf}
 use Rattle.rules.specs.declared.Size.{Size}
 use Rattle.rules.proofs.Lawful.{lawful-right}
 use Rattle.text.specs.Numbers.{decimal}
@@ -22,11 +22,11 @@ use Rattle.text.proofs.Decimals.{decimal-small, decimal-step, decimal-length, f
 use Rattle.sheet.specs.Lines.{Line, final, arc, sizeOf, sizeText, lineText, place}
 use Rattle.sheet.specs.Sheets.{finalLine, sheetText, textOf, sheet, readSheet}
 use Rattle.sheet.specs.Inner.{Sized}
-use Rattle.sheet.proofs.Below.{each-append, each-each}
 use Rattle.sheet.proofs.Texts.{LineIn, Rising, Sheeted, sheet-read}
 use Rattle.sheet.proofs.Tables.{placeLine, lines-flat}
 use Rattle.sheet.proofs.Filled.{place-top}
 use Rattle.sheet.proofs.OneText.{size-in}
+use Rattle.meaning.proofs.Lists.{each-append, each-each}
 
 abbrev pub longest : ℕ
 longest = 18212

@@ -8,11 +8,11 @@ use lib.Dec.{leb}
 use lib.ListN.{length, drop}
 use lib.Seq.{sets-eq}
 use borrow.Author.Tests.{le-leb, lt-leb}
-use Rattle.rules.specs.Answers.{numberOf, check, decided}
+use Rattle.meaning.specs.Meaning.{Rules}
 use Rattle.rules.specs.Checks.{sizeRight, tablesLong, rulesRight}
-use Rattle.rules.specs.Meaning.{Rules}
-use Rattle.rules.specs.declared.Answer.the-variants.{WrongSize, WrongLength, WrongTables, ShortBuffer}
+use Rattle.rules.specs.Answers.{numberOf, check, decided}
 use Rattle.rules.proofs.Checks.{both, rules-tables}
+use Rattle.rules.specs.declared.Answer.the-variants.{WrongSize, WrongLength, WrongTables, ShortBuffer}
 use Rattle.text.specs.Writing.{mostPlace, Wrote}
 use Rattle.sheet.specs.Sheets.{sheetText}
 use Rattle.scribe.specs.Writing.{Outcome, writeLeft, writeOf}

@@ -1,24 +1,22 @@
 -- Laws of the lines of a rule set put into a buffer one after the other. Assumes nothing.
 use mathlib.Core.Path.{_≡_, ap, sym, _∙_}
-use mathlib.Core.Bool.{Bool, true, false}
+use mathlib.Core.Bool.{true, false}
 use mathlib.Core.List.{List, [], _∷_, _++_, append-nil}
-use Prim.Native.Nat.{ℕ, _+_, _/_, _^_, _≤_, _<_}
+use Prim.Native.Nat.{ℕ, _+_, _≤_, _<_}
 use native.Mathlib.Omega.{arith}
-use lib.Bits.{bitAnd}
 use lib.ListN.{length}
 use lib.Seq.{append-snoc}
-use borrow.Author.Tests.{lt-ltb, le-ltb, eq-eqb, ne-eqb}
+use borrow.Author.Tests.{lt-ltb, le-ltb}
 use Rattle.kinds.specs.Bits.{bit}
-use Rattle.kinds.proofs.Bits.{bit-test}
-use Rattle.rules.specs.Lists.{from, each}
-use Rattle.rules.specs.Meaning.{Arcs, Rules, target, cost}
+use Rattle.meaning.specs.Meaning.{Arcs, Rules, target, cost}
+use Rattle.meaning.specs.Lists.{from, each}
 use Rattle.text.specs.Numbers.{decimal}
 use Rattle.text.specs.Writing.{mostPlace, Wrote}
 use Rattle.text.proofs.Putting.{wrote-none, wrote-append, wrote-length}
 use Rattle.sheet.specs.Lines.{sizeOf, final, arc, sizeText, lineText}
 use Rattle.sheet.specs.Sheets.{finalLine, arcLine, linesOf, textOf, sheetText}
-use Rattle.sheet.proofs.Below.{each-append, each-each, each-same, each-more}
 use Rattle.scribe.specs.Inner.{listed, stateText, arcText, rowText}
+use Rattle.meaning.proofs.Lists.{each-append, each-each, each-same, each-more}
 
 -- a text with what follows it: the buffer is then as long as before
 pub wrote-then : {b c d xs ys : List ℕ} {at p r : ℕ} → length b ≤ mostPlace → Wrote b at xs c p → (length c ≤ mostPlace → Wrote c p ys d r) → Wrote b at (xs ++ ys) d r
@@ -44,12 +42,6 @@ module _ (f : ℕ → List ℕ) (b : List ℕ) (at : ℕ) where
 -- one line or none
 pub wrote-as : {b b2 xs ys : List ℕ} {at r : ℕ} → xs ≡ ys → Wrote b at xs b2 r → Wrote b at ys b2 r
 wrote-as e w = rw (← e) w
-
-pub bit-yes : (m q : ℕ) → bitAnd (m / 2 ^ q) 1 ≡ 1 → bit m q ≡ true
-bit-yes m q h = sym (bit-test m q) ∙ eq-eqb _ _ h
-
-pub bit-no : (m q : ℕ) → (bitAnd (m / 2 ^ q) 1 ≡ 1 → ⊥) → bit m q ≡ false
-bit-no m q h = sym (bit-test m q) ∙ ne-eqb _ _ h
 
 pub state-some : (m q : ℕ) → bit m q ≡ true → lineText (final q) ≡ stateText m q
 unfolding stateText

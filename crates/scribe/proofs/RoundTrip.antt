@@ -7,9 +7,9 @@ use native.Mathlib.Omega.{arith}
 use lib.Dec.{leb}
 use lib.ListN.{length, take, drop}
 use lib.Seq.{take-at}
-use Rattle.rules.specs.Answers.{check, decided}
+use Rattle.meaning.specs.Meaning.{rulesOf}
 use Rattle.rules.specs.Checks.{sizeRight, tablesLong, tablesRight, rulesRight}
-use Rattle.rules.specs.Meaning.{rulesOf}
+use Rattle.rules.specs.Answers.{check, decided}
 use Rattle.sheet.specs.Sheets.{sheetText}
 use Rattle.sheet.specs.Reading.{readLeft, readOf}
 use Rattle.sheet.proofs.OneText.{reads-back}

@@ -3,10 +3,10 @@ use mathlib.Core.Path.{_≡_, refl, ap, ap₂, sym, _∙_}
 use mathlib.Core.Bool.{true}
 use mathlib.Core.List.{List}
 use Prim.Native.Nat.{ℕ}
+use Rattle.meaning.specs.Meaning.{Rules}
 use Rattle.rules.specs.Answers.{order, inOrder}
-use Rattle.rules.specs.Meaning.{Rules}
-use Rattle.rules.specs.declared.Answer.{Answer}
 use Rattle.rules.proofs.Unique.{answer-one}
+use Rattle.rules.specs.declared.Answer.{Answer}
 use Rattle.scribe.specs.Writing.{Outcome, writeChecks, writeOf}
 use Rattle.scribe.specs.declared.Written.{Written}
 use Rattle.scribe.proofs.Outcomes.{leftOf}

@@ -1,8 +1,8 @@
 -- What only the inner functions' contracts cite.
 use mathlib.Core.List.{List}
 use Prim.Native.Nat.{ℕ}
-use Rattle.rules.specs.Lists.{from, each}
-use Rattle.rules.specs.Meaning.{Arcs}
+use Rattle.meaning.specs.Meaning.{Arcs}
+use Rattle.meaning.specs.Lists.{from, each}
 use Rattle.rules.specs.declared.Answer.{Answer}
 use Rattle.sheet.specs.Lines.{lineText}
 use Rattle.sheet.specs.Sheets.{finalLine, arcLine}

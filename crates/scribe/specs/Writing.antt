@@ -3,9 +3,9 @@ use mathlib.Core.List.{List, [], _∷_, _++_}
 use Prim.Native.Nat.{ℕ}
 use lib.Dec.{leb}
 use lib.ListN.{length, drop}
-use Rattle.rules.specs.Answers.{Check, check, decided}
+use Rattle.meaning.specs.Meaning.{Rules}
 use Rattle.rules.specs.Checks.{sizeRight, tablesLong, tablesRight}
-use Rattle.rules.specs.Meaning.{Rules}
+use Rattle.rules.specs.Answers.{Check, check, decided}
 use Rattle.sheet.specs.Sheets.{sheetText}
 
 -- the answer number, the length of the text, and the buffer

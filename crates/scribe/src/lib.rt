@@ -1,7 +1,7 @@
 // The writer of sheets.
 ghost use mathlib.Core.Path.{_≡_};
+ghost use Rattle.meaning.specs.Meaning.{rulesOf};
 ghost use Rattle.rules.specs.Answers.{numberOf};
-ghost use Rattle.rules.specs.Meaning.{rulesOf};
 ghost use Rattle.scribe.specs.Writing.{writeLeft, writeOf};
 ghost use Rattle.scribe.specs.Inner.{refusal};
 

@@ -11,13 +11,13 @@ use lib.ListN.{length, getD, drop, take, set, replicate, replicate-append-replic
 use lib.Seq.{take-add, drop-at, drop-drop, take-take}
 use borrow.Author.Tests.{eq-eqb, ne-eqb}
 use Rattle.rules.specs.Answers.{zeros}
-use Rattle.machine.specs.Room.{mostEntries, rowSize, rowsSize, headSize, spareSize, openingPlace}
-use Rattle.machine.specs.Sessions.{Entry, decision, mark, isMark, marks, isDecision, decisions, backTo, Fits}
-use Rattle.machine.specs.Memory.{countOf, rowsOf, entryOf, entryAt, entriesAt, entriesOf, openingOf, heldOf, rows, rowsRight}
-use Rattle.machine.specs.Inner.{Held}
-use Rattle.machine.proofs.Numbers.{and-both, part-long}
-use Rattle.machine.proofs.Entries.{rowAt, rows-at}
-use Rattle.machine.proofs.Image.{count-all, entries-length, rows-length, rows-back, entries-in-range, reads-back, reads-fit, room-rows, room-long, held-room}
+use Rattle.ledger.specs.Sessions.{Entry, decision, mark, isMark, marks, isDecision, decisions, backTo}
+use Rattle.ledger.proofs.Bounds.{WithinBounds}
+use Rattle.ledger.specs.Layout.{mostEntries, rowSize, rowsSize, headSize, spareSize, openingPlace}
+use Rattle.ledger.specs.Memory.{countOf, rowsOf, entryOf, entryAt, entriesAt, entriesOf, openingOf, heldOf, rows, rowsRight, Held}
+use Rattle.ledger.proofs.Numbers.{and-both, part-long}
+use Rattle.ledger.proofs.Image.{count-all, entries-length, rows-length, rows-back, entries-in-range, reads-back, reads-within, room-rows, room-long, held-room}
+use Rattle.ledger.proofs.Entries.{rowAt, rows-at}
 use Rattle.machine.proofs.Refreshes.{held-few}
 use Rattle.session.specs.Inner.{Counted, markAt, undoneAt}
 use Rattle.session.proofs.Pushes.{held-counts}
@@ -127,9 +127,9 @@ module _ (n q v start : ℕ) (l : List ℕ) (h : Held n q v start l) where
     unfolding countOf
     rows-ok = let w = few-all in rows-prefix n v s (countOf l) (room-rows n v (getD l 4 0) (getD l 5 0) s (room-long n q v start l (h .long) (h .right)) w (held-room n q v start l (h .long) (h .right))) i low
 
-    pub undo-fits : Fits n v (openingOf n l) ds
+    pub undo-fits : WithinBounds n v (openingOf n l) ds
     unfolding entriesOf
-    undo-fits = let f = reads-fit n q v start l h in record {
+    undo-fits = let f = reads-within n q v start l h in record {
       masks-long = f .masks-long;
       limits-long = f .limits-long;
       masks-right = f .masks-right;
@@ -203,8 +203,8 @@ module _ (n q v start : ℕ) (l : List ℕ) (h : Held n q v start l) where
       low-now : j - 1 ≤ countOf l
       low-now = let w = mark-le (rowsOf l) (countOf l) in omega arith
 
-      pub back-fits : Fits n v (openingOf n l) (backTo es)
-      back-fits = rw (found-now .back z) (undo-fits (j - 1) low-now)
+      pub back-within : WithinBounds n v (openingOf n l) (backTo es)
+      back-within = rw (found-now .back z) (undo-fits (j - 1) low-now)
 
       pub some-marks : 0 < marks es
       some-marks = omega (arith, found-now .one-less z)

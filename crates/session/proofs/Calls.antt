@@ -9,25 +9,25 @@ use lib.Dec.{eqb, ltb}
 use lib.ListN.{length, getD, drop, take, replicate, length-append, length-replicate, length-drop, drop-of-length-le}
 use lib.Seq.{drop-at, length-take-le, getD-drop}
 use borrow.Author.Tests.{eq-eqb, lt-ltb, le-ltb}
-use Rattle.rules.specs.Bounds.{mostPlaces, mostValues}
-use Rattle.rules.specs.Meaning.{Decision, Told}
-use Rattle.rules.specs.Answers.{decided, swept, zeros}
+use Rattle.meaning.specs.Meaning.{Decision, Verdict}
+use Rattle.meaning.specs.Bounds.{mostPlaces, mostValues}
+use Rattle.meaning.proofs.Verdicts.{verdict-answers}
 use Rattle.rules.specs.Checks.{Handed}
+use Rattle.rules.specs.Answers.{decided, workAfter, zeros}
 use Rattle.rules.proofs.Checks.{size-of, sizes-of}
-use Rattle.machine.specs.Room.{mostDecisions, mostMarks, mostEntries, shownSize, heldSize, memorySize}
-use Rattle.machine.specs.Sessions.{Opening, Entry, decision, mark, isMark, marks, isDecision, decisions, standing, placesBy, toldBy, Ask, deciding, marking, goingBack, decisionRight, askChecks, after, backTo, Fits}
-use Rattle.machine.specs.Memory.{countOf, rowsOf, heldOf, shownOf, imageOf, entryOf, entriesOf, openingOf, heldIn, rowRight, heldRight, toldHeld}
-use Rattle.machine.specs.Calls.{readiness, readyOf, readyChecks, lentChecks, Left, left, settledOf, settledBy}
-use Rattle.machine.specs.Inner.{Held, Lent}
-use Rattle.machine.proofs.Below.{told-answers}
-use Rattle.machine.proofs.Numbers.{tail-is}
-use Rattle.machine.proofs.Image.{one-each, held-of, entries-of, opening-of, long-of}
-use Rattle.machine.proofs.Decided.{Passed, through, refused-on, passed-on, lent-of, memory-of}
-use Rattle.machine.proofs.WellFormed.{formed-held, formed-fits, formed-shown}
-use Rattle.session.specs.Calls.{became, called}
+use Rattle.ledger.specs.Sessions.{Opening, Entry, decision, mark, isMark, marks, isDecision, decisions, standing, placesBy, verdictBy, Ask, deciding, marking, goingBack, decisionRight, askChecks, after, backTo}
+use Rattle.ledger.proofs.Bounds.{WithinBounds}
+use Rattle.ledger.specs.Readiness.{readiness, readyOf, readyChecks, lentChecks, Left, left, renewedOf, renewedBy, Lent}
+use Rattle.ledger.specs.Calls.{became, called}
+use Rattle.ledger.specs.Layout.{mostDecisions, mostMarks, mostEntries, shownSize, heldSize, memorySize}
+use Rattle.ledger.specs.Memory.{countOf, rowsOf, heldOf, shownOf, imageOf, entryOf, entriesOf, openingOf, heldIn, rowRight, heldRight, verdictHeld, Held}
+use Rattle.ledger.proofs.WellFormed.{formed-held, formed-within, formed-shown}
+use Rattle.ledger.proofs.Numbers.{tail-is}
+use Rattle.ledger.proofs.Checked.{Passed, through, refused-on, passed-on, lent-of, memory-of}
+use Rattle.ledger.proofs.Image.{one-each, held-of, entries-of, opening-of, long-of}
 use Rattle.session.specs.Inner.{Counted, pushed, markAt, undoneAt, Formed, decidedOn}
-use Rattle.session.proofs.Pushes.{Addable, held-counts, added-fits, added-counts, added-held}
-use Rattle.session.proofs.Backs.{counted, no-mark, undo-there, back-fits, some-marks, back-held}
+use Rattle.session.proofs.Pushes.{Addable, held-counts, added-within, added-counts, added-held}
+use Rattle.session.proofs.Backs.{counted, no-mark, undo-there, back-within, some-marks, back-held}
 
 -- memory in which what is held has become y
 abbrev pub around : ℕ → List ℕ → List ℕ → List ℕ
@@ -49,18 +49,18 @@ module _ (n : ℕ) (m y : List ℕ) (long : length m ≡ memorySize n) where
   around-long e = ap length around-is ∙ length-append (take (shownSize n) m) y ∙ (let f = front-long in omega arith)
 
 -- what is told of a session that is held
-pub told-of : (h : Handed) (o : Opening) (es : List Entry) → Fits (h .places) (h .rules .arcs .values) o es
-    → toldHeld h (heldOf (h .places) (h .rules .arcs .states) (h .rules .arcs .values) (h .start) o es) ≡ toldBy h o (standing es)
-unfolding toldHeld
-told-of h o es f =
-    ap₂ (λ (a : List Entry) (b : Opening). toldBy h b (standing a))
+pub verdict-of : (h : Handed) (o : Opening) (es : List Entry) → WithinBounds (h .places) (h .rules .arcs .values) o es
+    → verdictHeld h (heldOf (h .places) (h .rules .arcs .states) (h .rules .arcs .values) (h .start) o es) ≡ verdictBy h o (standing es)
+unfolding verdictHeld
+verdict-of h o es f =
+    ap₂ (λ (a : List Entry) (b : Opening). verdictBy h b (standing a))
     (entries-of (h .places) (h .rules .arcs .states) (h .rules .arcs .values) (h .start) o es f)
     (opening-of (h .places) (h .rules .arcs .states) (h .rules .arcs .values) (h .start) o es f)
 
--- settling gives the image
+-- renewing gives the image
 module _ (h : Handed) (m y w : List ℕ) (o : Opening) (es : List Entry) (lent : Lent h w) (long : length m ≡ memorySize (h .places))
     (is : y ≡ heldOf (h .places) (h .rules .arcs .states) (h .rules .arcs .values) (h .start) o es)
-    (fits : Fits (h .places) (h .rules .arcs .values) o es) where
+    (fits : WithinBounds (h .places) (h .rules .arcs .values) o es) where
   abbrev right : List ℕ → Bool
   right l = heldRight (h .places) (h .rules .arcs .states) (h .rules .arcs .values) (h .start) l
 
@@ -72,17 +72,17 @@ module _ (h : Handed) (m y w : List ℕ) (o : Opening) (es : List Entry) (lent :
   long-now : length (around (h .places) m y) ≡ memorySize (h .places)
   long-now = around-long (h .places) m y long (ap length is ∙ long-of (h .places) (h .rules .arcs .states) (h .rules .arcs .values) (h .start) o es fits)
 
-  by-settling : settledBy h (heldIn (h .places) (around (h .places) m y)) w ≡ became h o es w
-  unfolding settledBy became imageOf
-  by-settling =
-      ap (λ (l : List ℕ). left (toldHeld h l .answered) (shownOf (toldHeld h l) ++ l) (zeros w)) (around-held (h .places) m y long ∙ is)
-      ∙ ap (λ (t : Told). left (t .answered) (shownOf t ++ heldOf (h .places) (h .rules .arcs .states) (h .rules .arcs .values) (h .start) o es) (zeros w))
-      (told-of h o es fits)
+  by-renewing : renewedBy h (heldIn (h .places) (around (h .places) m y)) w ≡ became h o es w
+  unfolding renewedBy became imageOf
+  by-renewing =
+      ap (λ (l : List ℕ). left (verdictHeld h l .answered) (shownOf (verdictHeld h l) ++ l) (zeros w)) (around-held (h .places) m y long ∙ is)
+      ∙ ap (λ (t : Verdict). left (t .answered) (shownOf t ++ heldOf (h .places) (h .rules .arcs .states) (h .rules .arcs .values) (h .start) o es) (zeros w))
+      (verdict-of h o es fits)
 
-  pub settles-as : (x : Left) → x ≡ settledOf h (around (h .places) m y) w → x ≡ became h o es w
-  unfolding settledOf decided
-  settles-as x e =
-      (rw (lent .sized, lent .tabled, eq-eqb _ _ long-now, eq-eqb _ _ (lent .worked), lent .ruled, right-now) at e) ∙ by-settling
+  pub renews-as : (x : Left) → x ≡ renewedOf h (around (h .places) m y) w → x ≡ became h o es w
+  unfolding renewedOf decided
+  renews-as x e =
+      (rw (lent .sized, lent .tabled, eq-eqb _ _ long-now, eq-eqb _ _ (lent .worked), lent .ruled, right-now) at e) ∙ by-renewing
 
 -- memory that is ready
 module _ (h : Handed) (m w : List ℕ) (f : Formed h m w) where
@@ -101,8 +101,8 @@ module _ (h : Handed) (m w : List ℕ) (f : Formed h m w) where
   pub held-is : Held (h .places) (h .rules .arcs .states) (h .rules .arcs .values) (h .start) l
   held-is = let b = bounds in formed-held h m (f .long) (b .0) (b .1) (b .2) (f .formed)
 
-  fits-is : Fits (h .places) (h .rules .arcs .values) (openingOf (h .places) l) es
-  fits-is = let b = bounds in formed-fits h m (f .long) (b .0) (b .1) (b .2) (f .formed)
+  fits-is : WithinBounds (h .places) (h .rules .arcs .values) (openingOf (h .places) l) es
+  fits-is = let b = bounds in formed-within h m (f .long) (b .0) (b .1) (b .2) (f .formed)
 
   pub at-decisions : getD m (shownSize (h .places) + 4) 0 ≡ decisions es
   at-decisions =
@@ -125,21 +125,21 @@ module _ (h : Handed) (m w : List ℕ) (f : Formed h m w) where
         e ∙ ap (pushed k p x) (tail-is (shownSize (h .places)) m)
         ∙ added-held (h .places) (h .rules .arcs .states) (h .rules .arcs .values) (h .start) k p x l add
 
-    push-settles : (y : List ℕ) → y ≡ pushed k p x part → (r : Left) → r ≡ settledOf h (around (h .places) m y) w
+    push-renews : (y : List ℕ) → y ≡ pushed k p x part → (r : Left) → r ≡ renewedOf h (around (h .places) m y) w
         → r ≡ became h (openingOf (h .places) l) (entryOf k p x ∷ es) w
-    push-settles y e r g =
-        settles-as h m y w (openingOf (h .places) l) (entryOf k p x ∷ es) (f .lent) (f .long) (pushed-held y e)
-        (added-fits (h .places) (h .rules .arcs .states) (h .rules .arcs .values) (h .start) k p x l add) r g
+    push-renews y e r g =
+        renews-as h m y w (openingOf (h .places) l) (entryOf k p x ∷ es) (f .lent) (f .long) (pushed-held y e)
+        (added-within (h .places) (h .rules .arcs .states) (h .rules .arcs .values) (h .start) k p x l add) r g
 
     -- an entry that decides nothing leaves what is shown
     push-shows : standing (entryOf k p x ∷ es) ≡ standing es → (y : List ℕ) → y ≡ pushed k p x part
         → around (h .places) m y ≡ imageOf h (openingOf (h .places) l) (entryOf k p x ∷ es)
-    unfolding imageOf toldHeld
+    unfolding imageOf verdictHeld
     push-shows s y e =
         let b = bounds in
         around-is (h .places) m y (f .long)
         ∙ ap₂ (λ (a d : List ℕ). a ++ d)
-        (formed-shown h m (f .long) (b .0) (b .1) (b .2) (f .formed) ∙ ap (λ (ds : List Decision). shownOf (toldBy h (openingOf (h .places) l) ds)) (sym s))
+        (formed-shown h m (f .long) (b .0) (b .1) (b .2) (f .formed) ∙ ap (λ (ds : List Decision). shownOf (verdictBy h (openingOf (h .places) l) ds)) (sym s))
         (pushed-held y e)
 
   -- decisions
@@ -157,11 +157,11 @@ module _ (h : Handed) (m w : List ℕ) (f : Formed h m w) where
         record { held = held-is; row = row; few = omega (arith, one-each (entryOf k p x)); open-few = omega (arith, b .open-few) }
 
     pub decide-goes : getD m (shownSize (h .places) + 4) 0 < mostDecisions → (y : List ℕ) → y ≡ pushed k p x part
-        → (r : Left) → r ≡ settledOf h (around (h .places) m y) w → r ≡ decidedOn h (entryOf k p x) m w
+        → (r : Left) → r ≡ renewedOf h (around (h .places) m y) w → r ≡ decidedOn h (entryOf k p x) m w
     unfolding decidedOn decided
     decide-goes c y e r g =
         let d = at-decisions in
-        rw (lt-ltb (decisions es) mostDecisions (omega arith)) (push-settles k p x (decide-adds c) y e r g)
+        rw (lt-ltb (decisions es) mostDecisions (omega arith)) (push-renews k p x (decide-adds c) y e r g)
 
   -- a mark
   pub mark-adds : getD m (shownSize (h .places) + 5) 0 < mostMarks
@@ -177,10 +177,10 @@ module _ (h : Handed) (m w : List ℕ) (f : Formed h m w) where
   mark-entry = (refl, refl)
 
   -- the result on hand is an answer
-  on-hand : (o : Opening) (es : List Entry) → cond (eqb (getD (imageOf h o es) 0 0) 0) 0 11 ≡ toldBy h o (standing es) .answered
-  unfolding imageOf shownOf toldBy
+  on-hand : (o : Opening) (es : List Entry) → cond (eqb (getD (imageOf h o es) 0 0) 0) 0 11 ≡ verdictBy h o (standing es) .answered
+  unfolding imageOf shownOf verdictBy
   on-hand o es =
-      ⊎-elim (λ e. rw e) (λ e. rw e) (told-answers (h .rules) (h .start) 0 (placesBy o (standing es)))
+      ⊎-elim (λ e. rw e) (λ e. rw e) (verdict-answers (h .rules) (h .start) 0 (placesBy o (standing es)))
 
   pub mark-goes : getD m (shownSize (h .places) + 5) 0 < mostMarks → (y : List ℕ) → y ≡ pushed 3 0 0 part
       → (r : ℕ) → r ≡ cond (eqb (getD (around (h .places) m y) 0 0) 0) 0 11
@@ -212,13 +212,13 @@ module _ (h : Handed) (m w : List ℕ) (f : Formed h m w) where
       pub back-some : 0 < marks es
       back-some = some-marks (h .places) (h .rules .arcs .states) (h .rules .arcs .values) (h .start) l held-is j newest z
 
-      pub back-settles : (y : List ℕ) → y ≡ undoneAt (j - 1) part → (r : Left) → r ≡ settledOf h (around (h .places) m y) w
+      pub back-renews : (y : List ℕ) → y ≡ undoneAt (j - 1) part → (r : Left) → r ≡ renewedOf h (around (h .places) m y) w
           → r ≡ became h (openingOf (h .places) l) (backTo es) w
-      back-settles y e r g =
-          settles-as h m y w (openingOf (h .places) l) (backTo es) (f .lent) (f .long)
+      back-renews y e r g =
+          renews-as h m y w (openingOf (h .places) l) (backTo es) (f .lent) (f .long)
           (e ∙ ap (undoneAt (j - 1)) (tail-is (shownSize (h .places)) m)
           ∙ back-held (h .places) (h .rules .arcs .states) (h .rules .arcs .values) (h .start) l held-is j newest z)
-          (back-fits (h .places) (h .rules .arcs .states) (h .rules .arcs .values) (h .start) l held-is j newest z) r g
+          (back-within (h .places) (h .rules .arcs .states) (h .rules .arcs .values) (h .start) l held-is j newest z) r g
 
 -- a call by what `ready` answers
 module _ (h : Handed) (m w w' : List ℕ) (a : ℕ) (e : readiness a w' ≡ readyOf h m w) where
@@ -251,7 +251,7 @@ module _ (h : Handed) (m w w' : List ℕ) (a : ℕ) (e : readiness a w' ≡ read
     l′ = heldIn (h .places) m
 
     call-tail : (ask : Ask) → called h ask m w
-        ≡ decided (askChecks (h .places) (h .rules .arcs .values) ask (entriesOf l′)) (λ n. left n m (swept n w)) (became h (openingOf (h .places) l′) (after ask (entriesOf l′)) w)
+        ≡ decided (askChecks (h .places) (h .rules .arcs .values) ask (entriesOf l′)) (λ n. left n m (workAfter n w)) (became h (openingOf (h .places) l′) (after ask (entriesOf l′)) w)
     unfolding called
     call-tail ask = through (readyChecks h m w) (askChecks (h .places) (h .rules .arcs .values) ask (entriesOf l′)) _ _ (both-of .0)
 

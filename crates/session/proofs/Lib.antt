@@ -4,5 +4,3 @@ pub mod Openings
 pub mod Ranges
 pub mod Calls
 pub mod Opens
-pub mod Demand
-pub mod Unique

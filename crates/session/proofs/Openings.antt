@@ -6,10 +6,10 @@ use native.Mathlib.Omega.{arith}
 use lib.ListN.{length, drop, take, set, replicate, length-append, length-replicate, length-take, length-drop, replicate-append-replicate, drop-of-length-le}
 use lib.Seq.{take-at, length-take-le}
 use Rattle.rules.specs.Answers.{zeros}
-use Rattle.machine.specs.Room.{rowsSize, headSize, spareSize, openingPlace, heldSize}
-use Rattle.machine.specs.Sessions.{Opening, marks, decisions}
-use Rattle.machine.specs.Memory.{heldOf, rows}
-use Rattle.machine.specs.Calls.{copied}
+use Rattle.ledger.specs.Sessions.{Opening, marks, decisions}
+use Rattle.ledger.specs.Layout.{rowsSize, headSize, spareSize, openingPlace, heldSize}
+use Rattle.ledger.specs.Memory.{heldOf, rows}
+use Rattle.machine.specs.Copied.{copied}
 use Rattle.machine.proofs.Copies.{copied-is}
 
 -- two copies, one behind the other

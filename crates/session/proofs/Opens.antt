@@ -1,58 +1,37 @@
 -- The returns of open. Assumes nothing.
 use mathlib.Core.Path.{_≡_, refl, sym, ap, _∙_}
-use mathlib.Core.Bool.{Bool, true, false}
+use mathlib.Core.Bool.{Bool, true, false, _&&_}
 use mathlib.Core.List.{List, []}
 use Prim.Native.Nat.{ℕ, _-_, _≤_}
 use native.Mathlib.Omega.{arith}
 use lib.Dec.{eqb}
 use lib.ListN.{length, take, length-drop}
-use borrow.Author.Tests.{eq-eqb, eqb-true}
-use Rattle.rules.specs.Bounds.{mostPlaces, mostStates, mostValues, workSize}
-use Rattle.rules.specs.Answers.{decided, zeros}
+use borrow.Author.Tests.{eq-eqb}
+use Rattle.meaning.specs.Bounds.{mostPlaces, mostStates, mostValues, workSize}
 use Rattle.rules.specs.Checks.{Handed, sizesRight, tablesLong, tablesRight, rulesRight, masksRight}
-use Rattle.rules.proofs.Checks.{both, not-so, size-of, sizes-of, rules-tables}
-use Rattle.machine.specs.Room.{shownSize, heldSize, memorySize}
-use Rattle.machine.specs.Sessions.{Opening, marks, decisions, entriesRight, Fits}
-use Rattle.machine.specs.Memory.{heldOf, heldIn}
-use Rattle.machine.specs.Calls.{Left, left, settledOf}
-use Rattle.machine.proofs.Numbers.{tail-is}
-use Rattle.session.specs.Calls.{openLong, opened}
-use Rattle.session.proofs.Calls.{around, settles-as}
-
--- the lengths one by one
-pub record OpenLengths (n : ℕ) (t c : List ℕ) (o : Opening) (m w : ℕ) : Type 0 where
-  pub tabled : tablesLong t c ≡ true
-  pub memory-is : m ≡ memorySize n
-  pub work-is : w ≡ workSize n
-  pub masks-are : length (o .masks) ≡ n
-  pub limits-are : length (o .limits) ≡ n
+use Rattle.rules.specs.Answers.{decided, zeros}
+use Rattle.rules.proofs.Checks.{not-so, size-of, sizes-of, rules-tables}
+use Rattle.ledger.specs.Sessions.{Opening, marks, decisions}
+use Rattle.ledger.proofs.Bounds.{entriesRight, WithinBounds}
+use Rattle.ledger.specs.Readiness.{Left, left, renewedOf}
+use Rattle.ledger.specs.Calls.{openLong, opened}
+use Rattle.ledger.specs.Layout.{shownSize, heldSize, memorySize}
+use Rattle.ledger.specs.Memory.{heldOf, heldIn}
+use Rattle.ledger.proofs.Numbers.{tail-is}
+use Rattle.ledger.proofs.Checked.{OpenLengths, lengths-of}
+use Rattle.session.proofs.Calls.{around, renews-as}
 
 module _ (n : ℕ) (t c : List ℕ) (o : Opening) (m w : ℕ) where
-  pub lengths-of : openLong n t c o m w ≡ true → OpenLengths n t c o m w
-  unfolding openLong
-  lengths-of e =
-      let a = both (tablesLong t c) _ e in
-      let b = both (eqb m (memorySize n)) _ (a .1) in
-      let d = both (eqb w (workSize n)) _ (b .1) in
-      let f = both (eqb (length (o .masks)) n) _ (d .1) in
-      record {
-        tabled = a .0;
-        memory-is = eqb-true _ _ (b .0);
-        work-is = eqb-true _ _ (d .0);
-        masks-are = eqb-true _ _ (f .0);
-        limits-are = eqb-true _ _ (f .1);
-      }
+  pub lengths-no : (OpenLengths n t c o m w → ⊥) → false ≡ (tablesLong t c && openLong n o m w)
+  lengths-no k = sym (not-so (tablesLong t c && openLong n o m w) (λ e. k (lengths-of n t c o m w e)))
 
-  pub lengths-no : (OpenLengths n t c o m w → ⊥) → false ≡ openLong n t c o m w
-  lengths-no k = sym (not-so (openLong n t c o m w) (λ e. k (lengths-of e)))
-
-  pub tables-no : tablesLong t c ≡ false → false ≡ openLong n t c o m w
+  pub tables-no : tablesLong t c ≡ false → false ≡ (tablesLong t c && openLong n o m w)
   unfolding openLong
   tables-no e = rw e
 
   -- the last length decides where the others are right
   pub lengths-last : tablesLong t c ≡ true → m ≡ memorySize n → w ≡ workSize n → length (o .masks) ≡ n
-      → eqb (length (o .limits)) n ≡ openLong n t c o m w
+      → eqb (length (o .limits)) n ≡ (tablesLong t c && openLong n o m w)
   unfolding openLong
   lengths-last a b d e = rw (a, eq-eqb _ _ b, eq-eqb _ _ d, eq-eqb _ _ e)
 
@@ -68,7 +47,7 @@ module _ (h : Handed) (o : Opening) (m w : List ℕ) where
   open-size a = rw a
 
   abbrev long : Bool
-  long = openLong (h .places) (h .rules .arcs .targets) (h .rules .arcs .costs) o (length m) (length w)
+  long = tablesLong (h .rules .arcs .targets) (h .rules .arcs .costs) && openLong (h .places) o (length m) (length w)
 
   module _ (a : sized ≡ true) where
     pub open-lengths : long ≡ false → left 2 m w ≡ opened h o m w
@@ -101,9 +80,9 @@ module _ (h : Handed) (o : Opening) (m w : List ℕ) where
             let c = lengths .memory-is in
             (s .few-places, t .few-states, t .few-values, lengths .masks-are, lengths .limits-are, ap length (tail-is (shownSize (h .places)) m) ∙ simp length-drop (omega arith))
 
-        open-fits : masksRight (h .rules .arcs .values) (o .masks) ≡ true → Fits (h .places) (h .rules .arcs .values) o []
+        open-within : masksRight (h .rules .arcs .values) (o .masks) ≡ true → WithinBounds (h .places) (h .rules .arcs .values) o []
         unfolding entriesRight decisions marks
-        open-fits k = record {
+        open-within k = record {
           masks-long = lengths .masks-are;
           limits-long = lengths .limits-are;
           masks-right = k;
@@ -114,8 +93,8 @@ module _ (h : Handed) (o : Opening) (m w : List ℕ) where
 
         pub open-done : masksRight (h .rules .arcs .values) (o .masks) ≡ true
             → (y : List ℕ) → y ≡ heldOf (h .places) (h .rules .arcs .states) (h .rules .arcs .values) (h .start) o []
-            → (x : Left) → x ≡ settledOf h (around (h .places) m y) w → x ≡ opened h o m w
+            → (x : Left) → x ≡ renewedOf h (around (h .places) m y) w → x ≡ opened h o m w
         unfolding opened decided
         open-done k y i x z =
             rw (a, b, third true g, k)
-            (settles-as h m y w o [] (record { sized = a; tabled = lengths .tabled; ruled = third true g; worked = lengths .work-is }) (lengths .memory-is) i (open-fits k) x z)
+            (renews-as h m y w o [] (record { sized = a; tabled = lengths .tabled; ruled = third true g; worked = lengths .work-is }) (lengths .memory-is) i (open-within k) x z)

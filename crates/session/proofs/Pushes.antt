@@ -5,13 +5,13 @@ use mathlib.Core.List.{List, [], _∷_, _++_, append-assoc}
 use Prim.Native.Nat.{ℕ, suc, _+_, _-_, _*_, _≤_, _<_}
 use native.Mathlib.Omega.{arith}
 use lib.ListN.{length, getD, set, replicate}
-use Rattle.machine.specs.Room.{mostDecisions, mostMarks, mostEntries, rowSize, rowsSize, headSize, spareSize}
-use Rattle.machine.specs.Sessions.{Opening, Entry, isMark, marks, isDecision, decisions, entryRight, entriesRight, Fits}
-use Rattle.machine.specs.Memory.{rowRight, countOf, entryOf, entriesOf, openingOf, heldOf, rows, kindOf, placeOf, amountOf}
-use Rattle.machine.specs.Inner.{Held}
-use Rattle.machine.proofs.Numbers.{and-both}
-use Rattle.machine.proofs.Entries.{one-mark}
-use Rattle.machine.proofs.Image.{one-each, count-all, rows-length, row-back, entry-row, reads-back, reads-fit}
+use Rattle.ledger.specs.Sessions.{Opening, Entry, isMark, marks, isDecision, decisions}
+use Rattle.ledger.proofs.Bounds.{entryRight, entriesRight, WithinBounds}
+use Rattle.ledger.specs.Layout.{mostDecisions, mostMarks, mostEntries, rowSize, rowsSize, headSize, spareSize}
+use Rattle.ledger.specs.Memory.{rowRight, countOf, entryOf, entriesOf, openingOf, heldOf, rows, kindOf, placeOf, amountOf, Held}
+use Rattle.ledger.proofs.Numbers.{and-both}
+use Rattle.ledger.proofs.Image.{one-each, count-all, rows-length, row-back, entry-row, reads-back, reads-within}
+use Rattle.ledger.proofs.Entries.{one-mark}
 use Rattle.session.specs.Inner.{pushed}
 
 -- room for one more entry
@@ -88,9 +88,9 @@ module _ (n q v start k p x : ℕ) (l : List ℕ) (add : Addable n q v start k p
   abbrev es : List Entry
   es = entriesOf l
 
-  pub added-fits : Fits n v (openingOf n l) (e ∷ es)
+  pub added-within : WithinBounds n v (openingOf n l) (e ∷ es)
   unfolding entriesRight
-  added-fits = let f = reads-fit n q v start l (add .held) in record {
+  added-within = let f = reads-within n q v start l (add .held) in record {
     masks-long = f .masks-long;
     limits-long = f .limits-long;
     masks-right = f .masks-right;
@@ -103,7 +103,7 @@ module _ (n q v start k p x : ℕ) (l : List ℕ) (add : Addable n q v start k p
   unfolding decisions marks
   added-counts =
       let c = held-counts n q v start l (add .held) in
-      let f = reads-fit n q v start l (add .held) in
+      let f = reads-within n q v start l (add .held) in
       let w = one-each e in
       (omega (arith, f .few), omega (arith, f .open-few), omega (arith, add .few, add .open-few))
 

@@ -4,9 +4,9 @@ use mathlib.Core.Bool.{true, false}
 use Prim.Native.Nat.{ℕ, _^_, _≤_, _<_}
 use lib.Dec.{ltb}
 use borrow.Author.Tests.{lt-ltb, le-ltb}
-use Rattle.rules.specs.Meaning.{Keep, Limit}
-use Rattle.machine.specs.Sessions.{decision, isMark, decisionRight}
-use Rattle.machine.specs.Memory.{entryOf, rowRight}
+use Rattle.meaning.specs.Meaning.{Keep, Limit}
+use Rattle.ledger.specs.Sessions.{decision, isMark, decisionRight}
+use Rattle.ledger.specs.Memory.{entryOf, rowRight}
 
 pub keep-entry : (p x : ℕ) → (entryOf 1 p x ≡ decision (Keep p x)) × (isMark (entryOf 1 p x) ≡ 0)
 unfolding entryOf isMark

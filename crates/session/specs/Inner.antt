@@ -5,14 +5,13 @@ use mathlib.Core.List.{List, [], _∷_, _++_}
 use Prim.Native.Nat.{ℕ, zero, suc, _+_, _-_, _*_, _≤_}
 use lib.Dec.{eqb, ltb}
 use lib.ListN.{length, getD, take, drop, set, replicate}
-use Rattle.rules.specs.Answers.{check, decided, swept, zeros}
 use Rattle.rules.specs.Checks.{Handed}
-use Rattle.machine.specs.Room.{mostDecisions, mostMarks, rowSize, headSize, openingPlace, memorySize}
-use Rattle.machine.specs.Sessions.{Entry, isMark, decisions}
-use Rattle.machine.specs.Memory.{countOf, entryOf, entryAt, entriesOf, openingOf, heldIn, wellFormed}
-use Rattle.machine.specs.Calls.{Left, left}
-use Rattle.machine.specs.Inner.{Lent}
-use Rattle.session.specs.Calls.{became}
+use Rattle.rules.specs.Answers.{check, decided, workAfter, zeros}
+use Rattle.ledger.specs.Sessions.{Entry, isMark, decisions}
+use Rattle.ledger.specs.Readiness.{Left, left, Lent}
+use Rattle.ledger.specs.Calls.{became}
+use Rattle.ledger.specs.Layout.{mostDecisions, mostMarks, rowSize, headSize, openingPlace, memorySize}
+use Rattle.ledger.specs.Memory.{countOf, entryOf, entryAt, entriesOf, openingOf, heldIn, wellFormed}
 
 -- both counts leave room, and what is held is long enough
 pub record Counted (l : List ℕ) : Type 0 where
@@ -47,4 +46,4 @@ pub record Formed (h : Handed) (m w : List ℕ) : Type 0 where
 unfoldable pub decidedOn : Handed → Entry → List ℕ → List ℕ → Left
 decidedOn h e m w =
     let l = heldIn (h .places) m in
-    decided (check 8 (ltb (decisions (entriesOf l)) mostDecisions) ∷ []) (λ n. left n m (swept n w)) (became h (openingOf (h .places) l) (e ∷ entriesOf l) w)
+    decided (check 8 (ltb (decisions (entriesOf l)) mostDecisions) ∷ []) (λ n. left n m (workAfter n w)) (became h (openingOf (h .places) l) (e ∷ entriesOf l) w)

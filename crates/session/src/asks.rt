@@ -1,27 +1,17 @@
 // What the calls share: a decision in range is taken, and the result on hand is an answer.
 ghost use mathlib.Core.Path.{_≡_};
 ghost use mathlib.Core.Bool.{true, cond};
-ghost use Prim.Native.Nat.{_≤_, _^_};
-ghost use lib.Dec.{eqb, ltb};
-ghost use Rattle.rules.specs.Bounds.{mostValues};
-ghost use Rattle.rules.specs.Answers.{numberOf};
+ghost use lib.Dec.{eqb};
 ghost use Rattle.rules.specs.Checks.{handed};
-ghost use Rattle.machine.specs.Sessions.{isMark};
-ghost use Rattle.machine.specs.Memory.{entryOf, rowRight};
-ghost use Rattle.machine.specs.Calls.{left};
+ghost use Rattle.rules.specs.Answers.{numberOf};
+ghost use Rattle.ledger.specs.Sessions.{isMark};
+ghost use Rattle.ledger.specs.Readiness.{left};
+ghost use Rattle.ledger.specs.Memory.{entryOf, rowRight};
 ghost use Rattle.session.specs.Inner.{Formed, decidedOn};
 use crate::entries;
-use machine::room;
+use machine::layout;
 use rules::Answer;
 use rules::Size;
-
-// Whether a decision's mask has no bit at or above V.
-pub(crate) fn mask_right(values: usize, mask: u16) -> bool
-    requires { ⌜ values ≤ mostValues ⌝ }
-    ensures { λ r. ⌜ r ≡ ltb mask (2 ^ values) ⌝ }
-{
-    (mask as u32) < 1u32 << values
-}
 
 // The result on hand.
 pub(crate) fn on_hand(result: u32) -> Answer
@@ -49,10 +39,10 @@ pub(crate) fn decide(
     requires { ⌜ Formed (handed places (size .states) (size .values) (size .start .0) (now targets) (now costs) accepting) (now memory) (now work) × (rowRight places (size .values) kind place amount ≡ true) × (isMark (entryOf kind place amount) ≡ 0) ⌝ }
     ensures { λ r. ⌜ left (numberOf r) (now (memory .exit)) (now (work .exit)) ≡ decidedOn (handed places (size .states) (size .values) (size .start .0) (now (targets .entry)) (now (costs .entry)) accepting) (entryOf kind place amount) (now (memory .entry)) (now (work .entry)) ⌝ }
 {
-    let front = places + room::SHOWN;
-    if room::MOST_DECISIONS <= memory[front + room::DECISIONS] {
+    let front = places + layout::SHOWN;
+    if layout::MOST_DECISIONS <= memory[front + layout::DECISIONS] {
         return Answer::DecisionsFull;
     }
     entries::push(&mut memory[front..], kind, place, amount);
-    machine::settle(places, size, targets, costs, accepting, memory, work)
+    machine::renew(places, size, targets, costs, accepting, memory, work)
 }

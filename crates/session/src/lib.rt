@@ -1,19 +1,20 @@
 // Sessions: open, keep, limit, mark and back. Each call is lent the sizes, the rule tables, the memory and the work table anew.
 ghost use mathlib.Core.Path.{_≡_};
-ghost use Rattle.rules.specs.Meaning.{Keep, Limit};
-ghost use Rattle.rules.specs.Answers.{numberOf};
+ghost use Rattle.meaning.specs.Meaning.{Keep, Limit};
 ghost use Rattle.rules.specs.Checks.{handed};
-ghost use Rattle.machine.specs.Sessions.{opening, deciding, marking, goingBack};
-ghost use Rattle.machine.specs.Calls.{left};
-ghost use Rattle.session.specs.Calls.{opened, called};
+ghost use Rattle.rules.specs.Answers.{numberOf};
+ghost use Rattle.ledger.specs.Sessions.{opening, deciding, marking, goingBack};
+ghost use Rattle.ledger.specs.Readiness.{left};
+ghost use Rattle.ledger.specs.Calls.{opened, called};
 
 mod asks;
 mod entries;
 mod opening;
 
-use machine::room;
+use machine::layout;
 use rules::Answer;
 use rules::Size;
+use rules::choices::mask_right;
 use rules::numbers::clear;
 
 // Opens a session in memory of any content.
@@ -52,9 +53,9 @@ pub fn open(
         clear(work);
         return Answer::WrongMask;
     }
-    let front = places + room::SHOWN;
+    let front = places + layout::SHOWN;
     opening::begin(places, size, masks, limits, &mut memory[front..]);
-    machine::settle(places, size, targets, costs, accepting, memory, work)
+    machine::renew(places, size, targets, costs, accepting, memory, work)
 }
 
 // Keep: narrows one place to a mask.
@@ -78,7 +79,7 @@ pub fn keep(
     if places <= place {
         return Answer::OutOfRange;
     }
-    if !asks::mask_right(size.values, mask) {
+    if !mask_right(size.values, mask) {
         return Answer::OutOfRange;
     }
     asks::decide(
@@ -87,7 +88,7 @@ pub fn keep(
         targets,
         costs,
         accepting,
-        room::KEEP,
+        layout::KEEP,
         place as u32,
         mask as u32,
         memory,
@@ -122,7 +123,7 @@ pub fn limit(
         targets,
         costs,
         accepting,
-        room::LIMIT,
+        layout::LIMIT,
         place as u32,
         cost,
         memory,
@@ -130,7 +131,7 @@ pub fn limit(
     )
 }
 
-// Mark: opens a mark. What is shown stays, so there is nothing to settle.
+// Mark: opens a mark. What is shown stays, so nothing is renewed.
 pub fn mark(
     places: usize,
     size: Size,
@@ -146,11 +147,11 @@ pub fn mark(
     if answer.number() != 0 {
         return answer;
     }
-    let front = places + room::SHOWN;
-    if room::MOST_MARKS <= memory[front + room::MARKS] {
+    let front = places + layout::SHOWN;
+    if layout::MOST_MARKS <= memory[front + layout::MARKS] {
         return Answer::MarksFull;
     }
-    entries::push(&mut memory[front..], room::MARK, 0, 0);
+    entries::push(&mut memory[front..], layout::MARK, 0, 0);
     asks::on_hand(memory[0])
 }
 
@@ -170,11 +171,11 @@ pub fn back(
     if answer.number() != 0 {
         return answer;
     }
-    let front = places + room::SHOWN;
+    let front = places + layout::SHOWN;
     let mark = entries::newest_mark(&memory[front..]);
     if mark == 0 {
         return Answer::NoMark;
     }
     entries::undo(&mut memory[front..], mark);
-    machine::settle(places, size, targets, costs, accepting, memory, work)
+    machine::renew(places, size, targets, costs, accepting, memory, work)
 }

@@ -3,13 +3,15 @@ ghost use mathlib.Core.Path.{_≡_};
 ghost use mathlib.Core.List.{[], _++_};
 ghost use Prim.Native.Nat.{_+_, _≤_};
 ghost use lib.ListN.{length};
-ghost use Rattle.rules.specs.Bounds.{mostPlaces, mostStates, mostValues};
-ghost use Rattle.machine.specs.Room.{heldSize};
-ghost use Rattle.machine.specs.Sessions.{opening};
-ghost use Rattle.machine.specs.Memory.{heldOf};
-ghost use Rattle.session.specs.Calls.{openLong};
+ghost use Rattle.meaning.specs.Bounds.{mostPlaces, mostStates, mostValues};
+ghost use Rattle.ledger.specs.Sessions.{opening};
+ghost use mathlib.Core.Bool.{_&&_};
+ghost use Rattle.rules.specs.Checks.{tablesLong};
+ghost use Rattle.ledger.specs.Calls.{openLong};
+ghost use Rattle.ledger.specs.Layout.{heldSize};
+ghost use Rattle.ledger.specs.Memory.{heldOf};
+use machine::layout;
 use machine::lists;
-use machine::room;
 use rules::Size;
 use rules::bounds;
 use rules::numbers::clear;
@@ -25,12 +27,12 @@ pub(crate) fn lengths_right(
     work: usize,
 ) -> bool
     requires { ⌜ places ≤ mostPlaces ⌝ }
-    ensures { λ r. ⌜ r ≡ openLong places (now (targets .entry)) (now (costs .entry)) (opening (now (masks .entry)) (now (limits .entry))) memory work ⌝ }
+    ensures { λ r. ⌜ r ≡ (tablesLong (now (targets .entry)) (now (costs .entry)) && openLong places (opening (now (masks .entry)) (now (limits .entry))) memory work) ⌝ }
 {
     if !rules::tables_long(targets, costs) {
         return false;
     }
-    if memory != 3 * places + room::REST_SIZE {
+    if memory != 3 * places + layout::REST_SIZE {
         return false;
     }
     if work != (places + 1) * bounds::MOST_STATES {
@@ -58,7 +60,7 @@ pub(crate) fn begin(places: usize, size: Size, masks: &[u16], limits: &[u32], he
 {
     let start = size.start;
     clear(held);
-    store(places, masks, limits, &mut held[room::OPENING..]);
+    store(places, masks, limits, &mut held[layout::OPENING..]);
     held[0] = places as u32;
     held[1] = size.states as u32;
     held[2] = size.values as u32;

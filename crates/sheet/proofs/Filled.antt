@@ -11,10 +11,10 @@ use lib.ListN.{length, getD, drop, set, replicate, length-append, length-set, le
 use lib.Seq.{getD-set-same, getD-set-other}
 use borrow.Author.Tests.{eq-eqb, ne-eqb, lt-ltb, le-ltb}
 use Rattle.kinds.specs.Bits.{bit}
-use Rattle.kinds.proofs.Bits.{bit-mask, mask-lt}
-use Rattle.rules.specs.Bounds.{mostStates, mostCost, noTarget}
-use Rattle.rules.specs.Lists.{from, each, any}
-use Rattle.rules.specs.Meaning.{arcsOf, rulesOf}
+use Rattle.kinds.proofs.Bits.{bit-mask, mask-lt, mask-cut}
+use Rattle.meaning.specs.Meaning.{arcsOf, rulesOf}
+use Rattle.meaning.specs.Lists.{from, each, any}
+use Rattle.meaning.specs.Bounds.{mostStates, mostCost, noTarget}
 use Rattle.rules.specs.Checks.{tablesRight}
 use Rattle.rules.proofs.Lawful.{ArcIn, lawful-right}
 use Rattle.rules.specs.declared.Size.{Size}
@@ -22,7 +22,6 @@ use Rattle.sheet.specs.Lines.{Line, final, arc, place}
 use Rattle.sheet.specs.Sheets.{finalLine, linesOf, names, acceptingOf, puts, theTarget, theCost, blank, targetsOf, costsOf}
 use Rattle.sheet.specs.Inner.{Sized}
 use Rattle.sheet.proofs.Texts.{LineIn, Rising}
-use Rattle.sheet.proofs.Below.{mask-cut}
 use Rattle.sheet.proofs.Tables.{placeLine, lines-flat, rising-down}
 
 -- an entry below the places of all lines stays

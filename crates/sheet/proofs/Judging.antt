@@ -1,15 +1,10 @@
 -- Laws of a line's judgement as the reader goes through it, and of where a line ends. Assumes nothing.
-use mathlib.Core.Bool.{Bool}
-use mathlib.Core.List.{List}
 use Prim.Native.Nat.{ℕ, _+_, _-_, _*_, _≤_, _<_}
 use native.Mathlib.Nat.{mul-le-mul}
 use native.Mathlib.Omega.{arith}
-use Rattle.rules.specs.Bounds.{mostValues}
+use Rattle.meaning.specs.Bounds.{mostValues}
 use Rattle.rules.specs.declared.Size.{Size}
-use Rattle.text.specs.Lines.{lines}
 use Rattle.sheet.specs.Inner.{Sized}
-use Rattle.text.specs.declared.lines.End.{End}
-use Rattle.text.specs.declared.numbers.Number.{Number}
 
 pub product-fits : (q v : ℕ) → q < 256 → v ≤ mostValues → q * v ≤ 4080
 product-fits q v h k = mul-le-mul {n₁ = q} {m₁ = v} {n₂ = 255} {m₂ = mostValues} (omega arith) k

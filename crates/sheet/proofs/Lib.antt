@@ -1,4 +1,3 @@
-pub mod Below
 pub mod Texts
 pub mod Tables
 pub mod Filled
@@ -6,5 +5,6 @@ pub mod OneText
 pub mod Judging
 pub mod Taking
 pub mod Outcomes
+pub mod WrongLine
 pub mod Unique
 pub mod Worked

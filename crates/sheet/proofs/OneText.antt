@@ -6,13 +6,13 @@ use Prim.Native.Nat.{ℕ, zero, suc, _*_, _≤_}
 use native.Mathlib.Omega.{arith}
 use lib.ListN.{length, take, drop}
 use borrow.Author.Tests.{lt-ltb, eq-eqb}
-use Rattle.rules.specs.Bounds.{tableSize}
-use Rattle.rules.specs.Lists.{each}
-use Rattle.rules.specs.Meaning.{rulesOf}
-use Rattle.rules.specs.Answers.{check, decided}
+use Rattle.meaning.specs.Meaning.{rulesOf}
+use Rattle.meaning.specs.Lists.{each}
+use Rattle.meaning.specs.Bounds.{tableSize}
 use Rattle.rules.specs.Checks.{sizeRight, tablesLong, rulesRight}
-use Rattle.rules.specs.declared.Size.{Size}
+use Rattle.rules.specs.Answers.{check, decided}
 use Rattle.rules.proofs.Checks.{both, size-of, size-last, long-tables, arcs-few}
+use Rattle.rules.specs.declared.Size.{Size}
 use Rattle.rules.proofs.Lawful.{Lawful, lawful}
 use Rattle.sheet.specs.Lines.{sizeOf, Line, sizeText, lineText, place}
 use Rattle.text.specs.Lines.{lines}

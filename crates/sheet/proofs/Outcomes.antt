@@ -1,19 +1,19 @@
 -- Laws of what reading a sheet answers. Assumes nothing.
 use mathlib.Core.Path.{_≡_, refl, ap, sym, _∙_}
-use mathlib.Core.Bool.{Bool, true, false}
+use mathlib.Core.Bool.{true, false}
 use mathlib.Core.List.{List, [], _∷_, _++_}
 use Prim.Native.Nat.{ℕ, _*_, _≤_}
 use native.Mathlib.Omega.{arith}
-use lib.ListN.{length, take}
-use Rattle.rules.specs.Bounds.{tableSize, noTarget}
-use Rattle.rules.specs.Answers.{numberOf, decided}
+use lib.ListN.{length}
+use Rattle.meaning.specs.Bounds.{tableSize, noTarget}
 use Rattle.rules.specs.Checks.{tablesLong}
-use Rattle.rules.specs.declared.Size.{Size}
+use Rattle.rules.specs.Answers.{numberOf, decided}
 use Rattle.rules.proofs.Checks.{refuses, arcs-few, never}
+use Rattle.rules.specs.declared.Size.{Size}
 use Rattle.sheet.specs.Lines.{Line}
 use Rattle.sheet.specs.Sheets.{Sheet, sheet, wrongAt, readSheet, acceptingOf, puts, theTarget, theCost, blank, targetsOf, costsOf}
 use Rattle.sheet.specs.Reading.{Outcome, readLeft, readRefused, readDone, readOf}
-use Rattle.sheet.specs.Inner.{Sized, told, bad, sheetTold, takenTold, Took, refusal}
+use Rattle.sheet.specs.Inner.{Sized, found, bad, sheetFound, takenFound, Took, refusal}
 use Rattle.rules.specs.declared.Answer.the-variants.{WrongLength, WrongSheet}
 use Rattle.sheet.specs.declared.Read.{Read}
 use Rattle.text.specs.declared.lines.Fault.{Fault}
@@ -47,9 +47,9 @@ module _ (s t c : List ℕ) where
 
 -- what a sheet that was taken tells
 pub took-is-wrong : (x : Sheet) (t c : List ℕ) (r : Taken) (t2 c2 : List ℕ) (n : ℕ) (f : Fault) → Took x t c r t2 c2 → r ≡ taken.Wrong n f → x ≡ wrongAt n f
-took-is-wrong x t c r t2 c2 n f k e = go x (sym (ap takenTold e) ∙ k .tells)
+took-is-wrong x t c r t2 c2 n f k e = go x (sym (ap takenFound e) ∙ k .tells)
   where
-    go : (x : Sheet) → bad n f ≡ sheetTold x → x ≡ wrongAt n f
+    go : (x : Sheet) → bad n f ≡ sheetFound x → x ≡ wrongAt n f
     go (sheet z ls) h = never cc
     go (wrongAt m g) h = cc
 
@@ -59,9 +59,9 @@ pub record Right (x : Sheet) (z : Size) (m : ℕ) : Type 0 where
   pub mask : m ≡ acceptingOf ls
 
 pub took-is-right : (x : Sheet) (t c : List ℕ) (r : Taken) (t2 c2 : List ℕ) (z : Size) (m : ℕ) → Took x t c r t2 c2 → r ≡ taken.Right z m → Right x z m
-took-is-right x t c r t2 c2 z m k e = go x (sym (ap takenTold e) ∙ k .tells)
+took-is-right x t c r t2 c2 z m k e = go x (sym (ap takenFound e) ∙ k .tells)
   where
-    go : (x : Sheet) → told z m ≡ sheetTold x → Right x z m
+    go : (x : Sheet) → found z m ≡ sheetFound x → Right x z m
     go (sheet y ls) h = record { ls = ls; is = cc; mask = cc }
     go (wrongAt n f) h = never cc
 

@@ -14,16 +14,16 @@ use lib.Seq.{drop-cons, append-snoc, set-at}
 use borrow.Author.Tests.{eq-eqb, ne-eqb, ltb-true, ltb-false}
 use Rattle.kinds.specs.Bits.{bit}
 use Rattle.kinds.proofs.Bits.{bit-above, mask-is}
-use Rattle.rules.specs.Bounds.{mostStates, mostCost, noTarget}
-use Rattle.rules.specs.Lists.{from, each, any}
-use Rattle.rules.specs.Meaning.{Arcs, Rules}
+use Rattle.meaning.specs.Bounds.{mostStates, mostCost, noTarget}
+use Rattle.meaning.specs.Lists.{from, each, any}
+use Rattle.meaning.specs.Meaning.{Arcs, Rules}
 use Rattle.rules.specs.declared.Size.{Size}
 use Rattle.rules.proofs.Lawful.{Lawful}
 use Rattle.sheet.specs.Lines.{sizeOf, Line, final, arc, place}
 use Rattle.sheet.specs.Sheets.{finalLine, arcLine, linesOf, names, acceptingOf, puts, theTarget, theCost, blank, targetsOf, costsOf}
 use Rattle.sheet.specs.Inner.{Sized}
-use Rattle.sheet.proofs.Below.{any-append, each-same, pairs-flat}
 use Rattle.sheet.proofs.Texts.{Rising}
+use Rattle.meaning.proofs.Lists.{any-append, each-same, pairs-flat}
 
 -- the arc line of place k of the tables
 abbrev pub placeLine : Arcs → ℕ → List Line

@@ -15,12 +15,12 @@ use lib.Seq.{append-snoc, set-out}
 use borrow.Author.Fill.{fill-more}
 use Rattle.kinds.specs.Bits.{bit, maskOf}
 use Rattle.kinds.proofs.Bits.{bit-mask, mask-is, mask-same, put-mask}
-use Rattle.rules.specs.Bounds.{mostStates, tableSize}
-use Rattle.rules.specs.Lists.{any}
+use Rattle.meaning.specs.Lists.{any}
+use Rattle.meaning.specs.Bounds.{mostStates, tableSize}
+use Rattle.rules.proofs.Checks.{arc-place, never}
 use Rattle.rules.specs.declared.Size.{Size}
 use Rattle.kinds.specs.declared.State.{State}
 use Rattle.kinds.specs.declared.Value.{Value}
-use Rattle.rules.proofs.Checks.{arc-place, never}
 use Rattle.text.specs.Lines.{right, wrong}
 use Rattle.sheet.specs.Lines.{Line, final, arc, place, readSize, readLine}
 use Rattle.text.specs.Lines.{lines}
@@ -36,8 +36,8 @@ use Rattle.sheet.specs.declared.lines.Row.the-variants.{Final, Arc, Wron
 use Rattle.sheet.specs.declared.take.Taken.{Taken}
 use Rattle.sheet.specs.declared.take.Taken.the-variants as taken
 use Rattle.sheet.proofs.lines.Row.{the-type}
-use Rattle.sheet.proofs.Below.{any-append}
 use Rattle.sheet.proofs.Texts.{Lined, line-read, size-read}
+use Rattle.meaning.proofs.Lists.{any-append}
 
 -- a table made blank place by place
 pub blank-more : (n x : ℕ) (xs : List ℕ) → n < length xs → set (blank n x xs) n x ≡ blank (n + 1) x xs

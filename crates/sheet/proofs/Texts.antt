@@ -9,16 +9,16 @@ use lib.Dec.{leb, eqb}
 use borrow.Author.Tests.{le-leb, leb-true}
 use Rattle.text.proofs.Judging.{strip-word, strip-read, onField-right, close-right, onStrip-right}
 use Rattle.text.proofs.Cutting.{OneLine, stop, more, lines-one}
-use Rattle.rules.specs.Bounds.{mostStates, mostValues, mostCost}
-use Rattle.rules.specs.Lists.{each}
-use Rattle.rules.specs.declared.Size.{Size}
+use Rattle.meaning.specs.Lists.{each}
+use Rattle.meaning.specs.Bounds.{mostStates, mostValues, mostCost}
 use Rattle.rules.proofs.Checks.{never}
+use Rattle.rules.specs.declared.Size.{Size}
 use Rattle.text.specs.Bytes.{tab, feed}
 use Rattle.text.specs.Numbers.{decimal, readNumber, readField, fieldEnd}
-use Rattle.text.specs.Lines.{Judged, right, wrong, Stripped, rest, other, strip, onStrip, ending}
+use Rattle.text.specs.Lines.{Judged, right, wrong, Stripped, rest, other, strip, onStrip, ending, onJudged}
 use Rattle.sheet.specs.Lines.{sizeOf, Line, final, arc, sizeWord, finalWord, arcWord, sizeText, lineText, place, readSize, readFinal, readArc, readLine}
 use Rattle.text.specs.Lines.{onto, lines}
-use Rattle.sheet.specs.Sheets.{Sheet, sheet, wrongAt, withLine, onJudged, readRest, readLines, readSheet, textOf}
+use Rattle.sheet.specs.Sheets.{Sheet, sheet, wrongAt, withLine, readRest, readLines, readSheet, textOf}
 use Rattle.sheet.specs.Inner.{Sized}
 use Rattle.text.specs.declared.lines.Fault.the-variants.{Form}
 use Rattle.text.proofs.Decimals.{AllDigits, decimal-all, read-decimal, Numbered, number-read, field-decimal, Fielded, field-read}

@@ -4,8 +4,8 @@ use mathlib.Core.Bool.{true}
 use mathlib.Core.List.{List}
 use Prim.Native.Nat.{ℕ}
 use Rattle.rules.specs.Answers.{order, inOrder}
-use Rattle.rules.specs.declared.Answer.{Answer}
 use Rattle.rules.proofs.Unique.{answer-one}
+use Rattle.rules.specs.declared.Answer.{Answer}
 use Rattle.sheet.specs.Lines.{sizeOf}
 use Rattle.sheet.specs.Sheets.{Sheet}
 use Rattle.sheet.specs.Reading.{Outcome, readChecks, readOf}

@@ -10,8 +10,8 @@ use lib.ListN.{drop}
 use Rattle.kinds.specs.Bits.{bit, maskOf}
 use Rattle.rules.specs.Answers.{decided}
 use Rattle.rules.specs.Checks.{tablesLong}
-use Rattle.rules.specs.Lists.{each}
-use Rattle.rules.specs.Worked.{W}
+use Rattle.meaning.specs.Lists.{each}
+use Rattle.meaning.specs.Worked.{W}
 use Rattle.text.specs.Numbers.{decimal, digits, past, value, plain, fieldEnd, readNumber, tabbed}
 use Rattle.text.specs.Lines.{lines, strip, ending}
 use Rattle.sheet.specs.Lines.{sizeText, lineText, place, readSize, readFinal, readArc, readLine}

@@ -1,20 +1,17 @@
 -- What only the inner functions' contracts cite: the code's answers in the words of the definitions.
 use mathlib.Core.Path.{_≡_}
-use mathlib.Core.Bool.{Bool, _||_}
+use mathlib.Core.Bool.{_||_}
 use mathlib.Core.List.{List, [], _∷_}
 use Prim.Native.Nat.{ℕ, _+_, _*_, _≤_, _<_}
-use lib.ListN.{take}
 use Rattle.kinds.specs.Bits.{bit, maskOf}
-use Rattle.rules.specs.Bounds.{mostStates, mostValues}
-use Rattle.rules.specs.Lists.{any}
+use Rattle.meaning.specs.Lists.{any}
+use Rattle.meaning.specs.Bounds.{mostStates, mostValues}
 use Rattle.rules.specs.declared.Size.{Size}
 use Rattle.rules.specs.declared.Answer.{Answer}
 use Rattle.text.specs.Lines.{Judged, right, wrong}
 use Rattle.sheet.specs.Lines.{sizeOf, Line, final, arc}
-use Rattle.text.specs.Lines.{lines}
 use Rattle.sheet.specs.Sheets.{Sheet, sheet, wrongAt, names, acceptingOf, puts, theTarget, theCost}
 use Rattle.text.specs.declared.lines.Fault.{Fault}
-use Rattle.text.specs.declared.numbers.Number.{Number}
 use Rattle.sheet.specs.declared.lines.Top.{Top}
 use Rattle.sheet.specs.declared.lines.Top.the-variants as top
 use Rattle.sheet.specs.declared.lines.Row.{Row}
@@ -63,20 +60,20 @@ pub record Put (values : ℕ) (ls : List Line) (m : ℕ) (t c : List ℕ) (m2 : 
   pub costs : c2 ≡ puts values theCost ls c
 
 -- a sheet that was taken: what it says, and what a right one has put into the tables
-pub data Told : Type 0 where
-  told : Size → ℕ → Told
-  bad : ℕ → Fault → Told
+pub data Found : Type 0 where
+  found : Size → ℕ → Found
+  bad : ℕ → Fault → Found
 
-abbrev pub sheetTold : Sheet → Told
-sheetTold (sheet z ls) = told z (acceptingOf ls)
-sheetTold (wrongAt n f) = bad n f
+abbrev pub sheetFound : Sheet → Found
+sheetFound (sheet z ls) = found z (acceptingOf ls)
+sheetFound (wrongAt n f) = bad n f
 
-abbrev pub takenTold : Taken → Told
-takenTold (taken.Right z m) = told z m
-takenTold (taken.Wrong n f) = bad n f
+abbrev pub takenFound : Taken → Found
+takenFound (taken.Right z m) = found z m
+takenFound (taken.Wrong n f) = bad n f
 
 pub record Took (x : Sheet) (t c : List ℕ) (r : Taken) (t2 c2 : List ℕ) : Type 0 where
-  pub tells : takenTold r ≡ sheetTold x
+  pub tells : takenFound r ≡ sheetFound x
   pub targets : (z : Size) (ls : List Line) → x ≡ sheet z ls → t2 ≡ puts (z .values) theTarget ls t
   pub costs : (z : Size) (ls : List Line) → x ≡ sheet z ls → c2 ≡ puts (z .values) theCost ls c
 

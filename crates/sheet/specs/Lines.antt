@@ -1,16 +1,14 @@
 -- The lines of a sheet: what a line says, its text, and the judgement of one line.
-use mathlib.Core.Bool.{Bool, true}
+use mathlib.Core.Bool.{true}
 use mathlib.Core.List.{List, [], _∷_, _++_}
 use Prim.Native.Nat.{ℕ, _+_, _-_, _*_}
 use lib.Dec.{leb}
 use Rattle.text.specs.Lines.{Judged, wrong, strip, onStrip, onField, close}
-use Rattle.rules.specs.Bounds.{mostStates, mostValues, mostCost}
+use Rattle.meaning.specs.Bounds.{mostStates, mostValues, mostCost}
 use Rattle.rules.specs.declared.Size.{Size}
 use Rattle.text.specs.Bytes.{tab, feed}
 use Rattle.text.specs.Numbers.{decimal, readNumber, readField}
-use Rattle.text.specs.declared.lines.Fault.{Fault}
 use Rattle.text.specs.declared.lines.Fault.the-variants.{Form}
-use Rattle.text.specs.declared.lines.End.{End}
 
 -- what the size line says: Q, V and the start
 abbrev pub sizeOf : ℕ → ℕ → ℕ → Size

@@ -3,8 +3,8 @@ use mathlib.Core.Bool.{Bool, true, false, cond}
 use mathlib.Core.List.{List, [], _∷_}
 use Prim.Native.Nat.{ℕ}
 use lib.Dec.{eqb}
-use Rattle.rules.specs.Answers.{Check, check, decided}
 use Rattle.rules.specs.Checks.{tablesLong}
+use Rattle.rules.specs.Answers.{Check, check, decided}
 use Rattle.sheet.specs.Sheets.{Sheet, sheet, wrongAt, readSheet, acceptingOf, targetsOf, costsOf}
 
 -- the answer number; the first wrong line; Q, V, start and the accepting mask; both tables

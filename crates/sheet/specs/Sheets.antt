@@ -4,13 +4,12 @@ use mathlib.Core.List.{List, [], _∷_, _++_}
 use Prim.Native.Nat.{ℕ, suc, _+_, _*_}
 use lib.Dec.{eqb}
 use lib.ListN.{drop, set, replicate}
-use Rattle.text.specs.Lines.{lines}
+use Rattle.text.specs.Lines.{lines, onJudged}
 use Rattle.kinds.specs.Bits.{bit, maskOf}
-use Rattle.rules.specs.Bounds.{mostStates, noTarget}
-use Rattle.rules.specs.Lists.{from, each, any}
-use Rattle.rules.specs.Meaning.{Arcs, Rules, target, cost, hasArc}
+use Rattle.meaning.specs.Meaning.{Arcs, Rules, target, cost, hasArc}
+use Rattle.meaning.specs.Lists.{from, each, any}
+use Rattle.meaning.specs.Bounds.{mostStates, noTarget}
 use Rattle.rules.specs.declared.Size.{Size}
-use Rattle.text.specs.Lines.{Judged, right, wrong}
 use Rattle.sheet.specs.Lines.{sizeOf, Line, final, arc, sizeText, lineText, place, readSize, readLine}
 use Rattle.text.specs.declared.lines.Fault.{Fault}
 use Rattle.text.specs.declared.lines.Fault.the-variants.{Form}
@@ -42,10 +41,6 @@ pub data Sheet : Type 0 where
 abbrev pub withLine : Line → Sheet → Sheet
 withLine l (sheet z ls) = sheet z (l ∷ ls)
 withLine l (wrongAt n f) = wrongAt n f
-
-abbrev pub onJudged : {A : Type 0} → Judged A → (A → Sheet) → (Fault → Sheet) → Sheet
-onJudged (right a) f g = f a
-onJudged (wrong x) f g = g x
 
 -- the lines from number n on, where `next` is the first place that is still free
 unfoldable pub readRest : Size → ℕ → ℕ → List (List ℕ) → Sheet

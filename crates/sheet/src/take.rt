@@ -2,7 +2,7 @@
 ghost use mathlib.Core.Path.{_≡_};
 ghost use Prim.Native.Nat.{_≤_};
 ghost use lib.ListN.{length, drop};
-ghost use Rattle.rules.specs.Bounds.{noTarget};
+ghost use Rattle.meaning.specs.Bounds.{noTarget};
 ghost use Rattle.text.specs.Lines.{lines};
 ghost use Rattle.sheet.specs.Sheets.{readRest, readSheet, blank};
 ghost use Rattle.sheet.specs.Inner.{Sized, RowIn, Put, rowLines, Took};

@@ -1,14 +1,15 @@
 -- Laws of a text cut into lines. Assumes nothing.
 use mathlib.Core.Path.{_≡_, refl, ap, sym, _∙_}
-use mathlib.Core.Bool.{Bool}
+use mathlib.Core.Bool.{Bool, true, false}
 use mathlib.Core.List.{List, [], _∷_, _++_}
 use Prim.Native.Nat.{ℕ, zero, suc, _+_, _-_, _≤_, _<_}
 use native.Mathlib.Omega.{arith}
 use lib.ListN.{length, getD, take, drop, length-drop, take-append-drop}
+use lib.Dec.{eqb}
 use lib.Seq.{drop-cons, getD-drop, drop-length, drop-drop, take-all}
 use borrow.Author.Tests.{ne-eqb}
 use Rattle.text.specs.Bytes.{feed}
-use Rattle.text.specs.Lines.{lines}
+use Rattle.text.specs.Lines.{onto, lines}
 use Rattle.text.specs.Inner.{LineAt}
 
 -- a text with one line feed, at its end
@@ -60,3 +61,14 @@ line-feed-none s a i h e f =
       high = omega arith;
       cuts = rw (e, drop-length s, take-all (length s - a) (drop a s) (omega arith)) (lines-last (drop a s) (omega arith) (λ k x y. f (a + k) (omega arith) (omega arith) (sym (getD-drop a s k 0) ∙ y)));
     }
+
+-- there are at most as many lines as bytes
+onto-length : (b : ℕ) (t : Bool) (ls : List (List ℕ)) → length (onto b t ls) ≤ suc (length ls)
+onto-length b true ls = omega arith
+onto-length b false [] = omega arith
+onto-length b false (l ∷ ls) = omega arith
+
+pub lines-length : (s : List ℕ) → length (lines s) ≤ length s
+unfolding lines
+lines-length [] = omega arith
+lines-length (b ∷ s) = omega (arith, onto-length b (eqb b feed) (lines s), lines-length s)

@@ -13,7 +13,7 @@ use denote.Enum.Declared.{tagOf}
 use lib.ListN.{length, getD, drop, length-append, length-drop, drop-of-length-le, List·getD-append}
 use lib.Seq.{drop-cons, getD-drop, drop-length}
 use borrow.Author.Tests.{le-leb, lt-leb, eq-eqb, ne-eqb, leb-true, eqb-true}
-use Rattle.rules.proofs.Checks.{both}
+use Rattle.rules.proofs.Checks.{both, never}
 use Rattle.text.specs.Bytes.{tab, feed, nought, isDigit, sortOf}
 use Rattle.text.specs.Numbers.{digits, past, value, plain, fieldEnd, Field, number, malformed, outside, readNumber, tabbed}
 use Rattle.text.specs.Lines.{rest, other, strip}
@@ -24,7 +24,6 @@ use Rattle.text.specs.declared.numbers.Number.{Number}
 use Rattle.text.specs.declared.numbers.Number.the-variants.{Value, Malformed, Outside}
 use Rattle.text.proofs.bytes.Sort.{the-type}
 use Rattle.text.proofs.numbers.Number.{the-type as number-type}
-use Rattle.rules.proofs.Checks.{never}
 use Rattle.text.proofs.Decimals.{digits-past}
 
 pub sort-digit : (b : ℕ) → 48 ≤ b → b ≤ 57 → Digit ≡ sortOf b

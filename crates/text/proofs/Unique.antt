@@ -11,7 +11,7 @@ use Rattle.rules.proofs.Checks.{never}
 use Rattle.text.specs.Bytes.{sortOf}
 use Rattle.text.specs.Numbers.{Field, number}
 use Rattle.text.specs.Lines.{strip, ending, lines}
-use Rattle.text.specs.Inner.{numberView, NumberAt, numberFault, stripView, LineAt, LineEnd}
+use Rattle.text.specs.Inner.{NumberAt, numberFault, stripView, LineEnd}
 use Rattle.text.specs.Writing.{Wrote}
 use Rattle.text.specs.declared.bytes.Sort.{Sort}
 use Rattle.text.specs.declared.lines.Fault.{Fault}

@@ -1,4 +1,4 @@
--- What only the inner functions' contracts cite: the code's answers in the words of the definitions.
+-- The code's answers in the words of the definitions, as the contracts of this crate have them.
 use mathlib.Core.Path.{_≡_}
 use mathlib.Core.Bool.{Bool, true, false}
 use mathlib.Core.List.{List, _∷_}

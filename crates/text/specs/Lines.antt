@@ -25,6 +25,10 @@ pub data Judged (A : Type 0) : Type 0 where
   right : A → Judged A
   wrong : Fault → Judged A
 
+abbrev pub onJudged : {A B : Type 0} → Judged A → (A → B) → (Fault → B) → B
+onJudged (right a) f g = f a
+onJudged (wrong x) f g = g x
+
 -- a word taken off the front of a text, with what follows it
 pub data Stripped : Type 0 where
   rest : List ℕ → Stripped

@@ -78,8 +78,8 @@ filter-from-requires c κs = let a = c .before .before .before .before .before .
       out-long (a .places) _ _ _ (a .targets .now) (a .costs .now) (a .masks .now) (a .limits .now) (a .work .now) _ s t l,
     )
 
-told-requires : tie.Need-told-requires
-told-requires c κs = search needs
+verdict-requires : tie.Need-verdict-requires
+verdict-requires c κs = search needs
 
 same-length-3 : tie.Need-same-length-3
 same-length-3 c = search needs
@@ -90,7 +90,7 @@ same-length-4 c = search needs
 returns-6 : tie.Need-returns-6
 returns-6 c = filter-tells _ _ _ _ _ _ _ _ _ _ _ (test-passed (c .before .before .before .before .before .before .before .before .before .before .before .before .before .before .before .before .before .before .sizes-right .ensures) (c .before .before .before .before .before .before .before .before .before .before .before .before .before .before .before .before .before .if1 .left)) (test-passed (c .before .before .before .before .before .before .before .before .before .before .before .before .before .before .before .before .tables-long .ensures) (c .before .before .before .before .before .before .before .before .before .before .before .before .before .before .before .if2 .left))
     (test-passed (c .before .before .before .before .before .before .before .before .before .before .before .before .before .before .lengths-right .ensures) (c .before .before .before .before .before .before .before .before .before .before .before .before .before .if3 .left)) (test-passed (c .before .before .before .before .before .before .before .before .before .before .before .before .rules-right .ensures) (c .before .before .before .before .before .before .before .before .before .before .before .if4 .left))
-    (test-passed (c .before .before .before .before .before .before .before .before .before .before .masks-right .ensures) (c .before .before .before .before .before .before .before .before .before .if5 .left)) (c .before .before .before .before .before .filter-from .ensures) (c .told .ensures)
+    (test-passed (c .before .before .before .before .before .before .before .before .before .before .masks-right .ensures) (c .before .before .before .before .before .before .before .before .before .if5 .left)) (c .before .before .before .before .before .filter-from .ensures) (c .verdict .ensures)
 
 pub filter-spec : {M : Type 1} → statement M
 filter-spec =
@@ -116,7 +116,7 @@ filter-spec =
     same-length-2
     returns-5
     filter-from-requires
-    told-requires
+    verdict-requires
     same-length-3
     same-length-4
     returns-6)

@@ -1,6 +1,6 @@
 use native.Mathlib.Omega.{arith}
 use mathlib.Core.Path.{sym, _∙_}
-use Rattle.session.proofs.Calls.{bounds, call-refused, ready-formed, back-ready, back-none, call-none, undo-ready, back-some, back-settles, call-backs}
+use Rattle.session.proofs.Calls.{bounds, call-refused, ready-formed, back-ready, back-none, call-none, undo-ready, back-some, back-renews, call-backs}
 use borrow.Author.Needs.{needs}
 use Rattle.session.proofs.back.Statement.{statement}
 use Rattle.session.proofs.back.Tie as tie
@@ -62,8 +62,8 @@ part-undo-end c = search needs
 undo-requires : tie.Need-undo-requires
 undo-requires c κs = undo-ready _ _ _ (ready-formed _ (c .before .before .before .before .before .before .before .before .before .before .before .before .before .before .before .before .args .memory .now) _ _ _ (c .before .before .before .before .before .before .before .before .before .ready .ensures) (sym (c .before .before .before .before .before .before .number .ensures) ∙ c .before .before .before .before .before .if1 .left)) _ (c .before .before .newest-mark .ensures) (c .before .if2 .left)
 
-settle-requires : tie.Need-settle-requires
-settle-requires c κs = search needs
+renew-requires : tie.Need-renew-requires
+renew-requires c κs = search needs
 
 same-length-5 : tie.Need-same-length-5
 same-length-5 c = search needs
@@ -72,7 +72,7 @@ same-length-6 : tie.Need-same-length-6
 same-length-6 c = search needs
 
 returns-3 : tie.Need-returns-3
-returns-3 c = call-backs _ (c .before .before .before .before .before .before .before .before .before .before .before .before .before .before .before .before .before .before .before .before .before .before .before .before .before .before .args .memory .now) _ _ _ (c .before .before .before .before .before .before .before .before .before .before .before .before .before .before .before .before .before .before .before .ready .ensures) (sym (c .before .before .before .before .before .before .before .before .before .before .before .before .before .before .before .before .number .ensures) ∙ c .before .before .before .before .before .before .before .before .before .before .before .before .before .before .before .if1 .left) (back-some _ _ _ (ready-formed _ (c .before .before .before .before .before .before .before .before .before .before .before .before .before .before .before .before .before .before .before .before .before .before .before .before .before .before .args .memory .now) _ _ _ (c .before .before .before .before .before .before .before .before .before .before .before .before .before .before .before .before .before .before .before .ready .ensures) (sym (c .before .before .before .before .before .before .before .before .before .before .before .before .before .before .before .before .number .ensures) ∙ c .before .before .before .before .before .before .before .before .before .before .before .before .before .before .before .if1 .left)) _ (c .before .before .before .before .before .before .before .before .before .before .before .before .newest-mark .ensures) (c .before .before .before .before .before .before .before .before .before .before .before .if2 .left)) _ (back-settles _ (c .before .before .before .before .before .before .before .before .before .before .before .before .before .before .before .before .before .before .before .before .before .before .before .before .before .before .args .memory .now) _ (ready-formed _ (c .before .before .before .before .before .before .before .before .before .before .before .before .before .before .before .before .before .before .before .before .before .before .before .before .before .before .args .memory .now) _ _ _ (c .before .before .before .before .before .before .before .before .before .before .before .before .before .before .before .before .before .before .before .ready .ensures) (sym (c .before .before .before .before .before .before .before .before .before .before .before .before .before .before .before .before .number .ensures) ∙ c .before .before .before .before .before .before .before .before .before .before .before .before .before .before .before .if1 .left)) _ (c .before .before .before .before .before .before .before .before .before .before .before .before .newest-mark .ensures) (c .before .before .before .before .before .before .before .before .before .before .before .if2 .left) _ (c .before .before .before .before .before .before .before .before .before .undo .ensures) _ (c .before .before .before .before .settle .ensures))
+returns-3 c = call-backs _ (c .before .before .before .before .before .before .before .before .before .before .before .before .before .before .before .before .before .before .before .before .before .before .before .before .before .before .args .memory .now) _ _ _ (c .before .before .before .before .before .before .before .before .before .before .before .before .before .before .before .before .before .before .before .ready .ensures) (sym (c .before .before .before .before .before .before .before .before .before .before .before .before .before .before .before .before .number .ensures) ∙ c .before .before .before .before .before .before .before .before .before .before .before .before .before .before .before .if1 .left) (back-some _ _ _ (ready-formed _ (c .before .before .before .before .before .before .before .before .before .before .before .before .before .before .before .before .before .before .before .before .before .before .before .before .before .before .args .memory .now) _ _ _ (c .before .before .before .before .before .before .before .before .before .before .before .before .before .before .before .before .before .before .before .ready .ensures) (sym (c .before .before .before .before .before .before .before .before .before .before .before .before .before .before .before .before .number .ensures) ∙ c .before .before .before .before .before .before .before .before .before .before .before .before .before .before .before .if1 .left)) _ (c .before .before .before .before .before .before .before .before .before .before .before .before .newest-mark .ensures) (c .before .before .before .before .before .before .before .before .before .before .before .if2 .left)) _ (back-renews _ (c .before .before .before .before .before .before .before .before .before .before .before .before .before .before .before .before .before .before .before .before .before .before .before .before .before .before .args .memory .now) _ (ready-formed _ (c .before .before .before .before .before .before .before .before .before .before .before .before .before .before .before .before .before .before .before .before .before .before .before .before .before .before .args .memory .now) _ _ _ (c .before .before .before .before .before .before .before .before .before .before .before .before .before .before .before .before .before .before .before .ready .ensures) (sym (c .before .before .before .before .before .before .before .before .before .before .before .before .before .before .before .before .number .ensures) ∙ c .before .before .before .before .before .before .before .before .before .before .before .before .before .before .before .if1 .left)) _ (c .before .before .before .before .before .before .before .before .before .before .before .before .newest-mark .ensures) (c .before .before .before .before .before .before .before .before .before .before .before .if2 .left) _ (c .before .before .before .before .before .before .before .before .before .undo .ensures) _ (c .before .before .before .before .renew .ensures))
 
 pub back-spec : {M : Type 1} → statement M
 back-spec =
@@ -97,7 +97,7 @@ back-spec =
     part-undo-start
     part-undo-end
     undo-requires
-    settle-requires
+    renew-requires
     same-length-5
     same-length-6
     returns-3)

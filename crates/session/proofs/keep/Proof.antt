@@ -32,7 +32,7 @@ returns-2 : tie.Need-returns-2
 returns-2 c = call-far _ (c .before .before .before .before .before .before .before .before .before .before .before .before .args .memory .now) _ _ _ (c .before .before .before .before .before .ready .ensures) (sym (c .before .before .number .ensures) ∙ c .before .if1 .left) _ (keep-far _ _ _ _ (c .if2 .taken))
 
 mask-right-requires : tie.Need-mask-right-requires
-mask-right-requires c κs = bounds _ _ _ (ready-formed _ (c .before .before .before .before .before .before .before .before .before .before .before .before .args .memory .now) _ _ _ (c .before .before .before .before .before .ready .ensures) (sym (c .before .before .number .ensures) ∙ c .before .if1 .left)) .2
+mask-right-requires c κs = search needs
 
 same-length-5 : tie.Need-same-length-5
 same-length-5 c = search needs

@@ -1,7 +1,8 @@
 use native.Mathlib.Omega.{arith}
-use Rattle.machine.specs.Sessions.{opening}
 use Rattle.rules.proofs.Checks.{test-failed, test-passed, sizes-of}
-use Rattle.session.proofs.Opens.{lengths-of, open-size, open-lengths, open-rules, open-mask, begin-ready, open-done}
+use Rattle.ledger.specs.Sessions.{opening}
+use Rattle.ledger.proofs.Checked.{lengths-of}
+use Rattle.session.proofs.Opens.{open-size, open-lengths, open-rules, open-mask, begin-ready, open-done}
 use borrow.Author.Needs.{needs}
 use Rattle.session.proofs.open.Statement.{statement}
 use Rattle.session.proofs.open.Tie as tie
@@ -60,8 +61,8 @@ part-begin-end c = search needs
 begin-requires : tie.Need-begin-requires
 begin-requires c κs = begin-ready _ (opening (c .before .before .before .before .before .before .before .before .before .before .before .before .before .before .before .args .masks .now) (c .before .before .before .before .before .before .before .before .before .before .before .before .before .before .before .args .limits .now)) (c .before .before .before .before .before .before .before .before .before .before .before .before .before .before .before .args .memory .now) (c .before .before .before .before .before .before .before .before .before .before .before .before .before .before .before .args .work .now) (test-passed (c .before .before .before .before .before .before .before .before .sizes-right .ensures) (c .before .before .before .before .before .before .before .if1 .left)) (test-passed (c .before .before .before .before .before .before .lengths-right .ensures) (c .before .before .before .before .before .if2 .left)) (test-passed (c .before .before .before .before .rules-right .ensures) (c .before .before .before .if3 .left))
 
-settle-requires : tie.Need-settle-requires
-settle-requires c κs = search needs
+renew-requires : tie.Need-renew-requires
+renew-requires c κs = search needs
 
 same-length-3 : tie.Need-same-length-3
 same-length-3 c = search needs
@@ -70,7 +71,7 @@ same-length-4 : tie.Need-same-length-4
 same-length-4 c = search needs
 
 returns-5 : tie.Need-returns-5
-returns-5 c = open-done _ (opening (c .before .before .before .before .before .before .before .before .before .before .before .before .before .before .before .before .before .before .before .before .before .before .before .before .before .args .masks .now) (c .before .before .before .before .before .before .before .before .before .before .before .before .before .before .before .before .before .before .before .before .before .before .before .before .before .args .limits .now)) (c .before .before .before .before .before .before .before .before .before .before .before .before .before .before .before .before .before .before .before .before .before .before .before .before .before .args .memory .now) (c .before .before .before .before .before .before .before .before .before .before .before .before .before .before .before .before .before .before .before .before .before .before .before .before .before .args .work .now) (test-passed (c .before .before .before .before .before .before .before .before .before .before .before .before .before .before .before .before .before .before .sizes-right .ensures) (c .before .before .before .before .before .before .before .before .before .before .before .before .before .before .before .before .before .if1 .left)) (test-passed (c .before .before .before .before .before .before .before .before .before .before .before .before .before .before .before .before .lengths-right .ensures) (c .before .before .before .before .before .before .before .before .before .before .before .before .before .before .before .if2 .left)) (test-passed (c .before .before .before .before .before .before .before .before .before .before .before .before .before .before .rules-right .ensures) (c .before .before .before .before .before .before .before .before .before .before .before .before .before .if3 .left)) (test-passed (c .before .before .before .before .before .before .before .before .before .before .before .before .masks-right .ensures) (c .before .before .before .before .before .before .before .before .before .before .before .if4 .left)) _ (c .before .before .before .before .before .before .before .before .before .begin .ensures) _ (c .before .before .before .before .settle .ensures)
+returns-5 c = open-done _ (opening (c .before .before .before .before .before .before .before .before .before .before .before .before .before .before .before .before .before .before .before .before .before .before .before .before .before .args .masks .now) (c .before .before .before .before .before .before .before .before .before .before .before .before .before .before .before .before .before .before .before .before .before .before .before .before .before .args .limits .now)) (c .before .before .before .before .before .before .before .before .before .before .before .before .before .before .before .before .before .before .before .before .before .before .before .before .before .args .memory .now) (c .before .before .before .before .before .before .before .before .before .before .before .before .before .before .before .before .before .before .before .before .before .before .before .before .before .args .work .now) (test-passed (c .before .before .before .before .before .before .before .before .before .before .before .before .before .before .before .before .before .before .sizes-right .ensures) (c .before .before .before .before .before .before .before .before .before .before .before .before .before .before .before .before .before .if1 .left)) (test-passed (c .before .before .before .before .before .before .before .before .before .before .before .before .before .before .before .before .lengths-right .ensures) (c .before .before .before .before .before .before .before .before .before .before .before .before .before .before .before .if2 .left)) (test-passed (c .before .before .before .before .before .before .before .before .before .before .before .before .before .before .rules-right .ensures) (c .before .before .before .before .before .before .before .before .before .before .before .before .before .if3 .left)) (test-passed (c .before .before .before .before .before .before .before .before .before .before .before .before .masks-right .ensures) (c .before .before .before .before .before .before .before .before .before .before .before .if4 .left)) _ (c .before .before .before .before .before .before .before .before .before .begin .ensures) _ (c .before .before .before .before .renew .ensures)
 
 pub open-spec : {M : Type 1} → statement M
 open-spec =
@@ -94,7 +95,7 @@ open-spec =
     part-begin-start
     part-begin-end
     begin-requires
-    settle-requires
+    renew-requires
     same-length-3
     same-length-4
     returns-5)

@@ -2,8 +2,8 @@ use mathlib.Core.Path.{refl, sym, _∙_}
 use Prim.Native.Nat.{_-_, _^_}
 use native.Mathlib.Omega.{arith}
 use lib.ListN.{length, drop}
-use Rattle.rules.specs.Bounds.{top}
-use Rattle.rules.specs.Meaning.{rulesOf}
+use Rattle.meaning.specs.Meaning.{rulesOf}
+use Rattle.meaning.specs.Bounds.{top}
 use Rattle.text.specs.Lines.{lines}
 use Rattle.job.specs.Output.{jobLine}
 use Rattle.job.proofs.Showing.{wrote-is}

@@ -1,10 +1,9 @@
 use mathlib.Core.Path.{sym, ap, _∙_}
-use mathlib.Core.List.{List}
 use Prim.Native.Nat.{ℕ, _-_, _^_}
 use native.Mathlib.Omega.{arith}
 use lib.ListN.{drop}
 use lib.Seq.{length-take-le}
-use Rattle.rules.specs.Meaning.{rulesOf}
+use Rattle.meaning.specs.Meaning.{rulesOf}
 use Rattle.job.specs.Input.{mostDays}
 use Rattle.job.specs.Output.{jobLine}
 use Rattle.job.specs.Job.{doneText}

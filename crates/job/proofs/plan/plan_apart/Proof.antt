@@ -1,10 +1,9 @@
 use mathlib.Core.Path.{refl, ap}
-use mathlib.Core.List.{List}
 use Prim.Native.Nat.{ℕ}
 use native.Mathlib.Omega.{arith}
 use lib.ListN.{replicate}
 use lib.Pow.{pow-mono}
-use Rattle.rules.specs.Bounds.{top}
+use Rattle.meaning.specs.Bounds.{top}
 use Rattle.job.specs.Input.{mostDays}
 use Rattle.job.proofs.Planning.{right-size}
 use borrow.Author.Needs.{needs}

@@ -1,5 +1,4 @@
 use mathlib.Core.Path.{sym, _∙_}
-use mathlib.Core.List.{List}
 use native.Mathlib.Omega.{arith}
 use Rattle.text.proofs.Putting.{wrote-append}
 use Rattle.job.specs.Output.{leastLine}

@@ -1,6 +1,6 @@
 use native.Mathlib.Omega.{arith}
 use mathlib.Core.Path.{_∙_}
-use Rattle.machine.proofs.Ranges.{head-no, head-last}
+use Rattle.ledger.proofs.Head.{head-no, head-last}
 use borrow.Author.Needs.{needs}
 use Rattle.machine.proofs.held.head_right.Statement.{statement}
 use Rattle.machine.proofs.held.head_right.Tie as tie

@@ -1,8 +1,9 @@
 use native.Mathlib.Omega.{arith}
 use Rattle.rules.proofs.Checks.{test-failed, test-passed}
-use Rattle.machine.specs.Room.{rowsSize, headSize}
-use Rattle.machine.proofs.Numbers.{part-long}
-use Rattle.machine.proofs.Ranges.{head-all, held-1, held-2, held-3}
+use Rattle.ledger.specs.Layout.{rowsSize, headSize}
+use Rattle.ledger.proofs.Numbers.{part-long}
+use Rattle.ledger.proofs.Head.{head-all}
+use Rattle.machine.proofs.Ranges.{held-1, held-2, held-3}
 use borrow.Author.Needs.{needs}
 use Rattle.machine.proofs.held.held_right.Statement.{statement}
 use Rattle.machine.proofs.held.held_right.Tie as tie

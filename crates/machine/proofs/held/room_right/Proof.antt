@@ -1,9 +1,9 @@
 use mathlib.Core.Path.{refl, ap, _∙_}
 use Prim.Native.Nat.{_+_, _*_}
 use Rattle.rules.proofs.Checks.{test-failed, test-passed}
-use Rattle.machine.specs.Room.{rowSize}
-use Rattle.machine.specs.Memory.{allZero}
-use Rattle.machine.proofs.Numbers.{tail-is}
+use Rattle.ledger.specs.Layout.{rowSize}
+use Rattle.ledger.specs.Memory.{allZero}
+use Rattle.ledger.proofs.Numbers.{tail-is}
 use Rattle.machine.proofs.Ranges.{room-1, room-2, room-3}
 use borrow.Author.Needs.{needs}
 use Rattle.machine.proofs.held.room_right.Statement.{statement}

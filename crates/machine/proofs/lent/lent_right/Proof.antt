@@ -1,5 +1,5 @@
 use Rattle.rules.proofs.Checks.{test-failed, test-passed, sizes-of}
-use Rattle.machine.proofs.Decided.{lent-size, lent-tables, lent-memory, lent-work, lent-rules, lent-done}
+use Rattle.machine.proofs.Lents.{lent-size, lent-tables, lent-memory, lent-work, lent-rules, lent-done}
 use borrow.Author.Needs.{needs}
 use Rattle.machine.proofs.lent.lent_right.Statement.{statement}
 use Rattle.machine.proofs.lent.lent_right.Tie as tie

@@ -2,8 +2,8 @@ use native.Mathlib.Omega.{arith}
 use mathlib.Core.Path.{_≡_, refl}
 use Prim.Native.Nat.{_≤_, _-_}
 use lib.ListN.{length, drop}
-use Rattle.machine.specs.Memory.{allBelow}
-use Rattle.machine.proofs.Numbers.{below-no, below-on, below-end}
+use Rattle.ledger.specs.Memory.{allBelow}
+use Rattle.ledger.proofs.Numbers.{below-no, below-on, below-end}
 use borrow.Author.Needs.{needs}
 use Rattle.machine.proofs.lists.all_below.Statement.{statement}
 use Rattle.machine.proofs.lists.all_below.Tie as tie

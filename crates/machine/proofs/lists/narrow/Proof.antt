@@ -2,7 +2,7 @@ use native.Mathlib.Omega.{arith}
 use mathlib.Core.Path.{_≡_, refl}
 use Prim.Native.Nat.{_≤_, _-_}
 use lib.ListN.{length}
-use Rattle.machine.proofs.Numbers.{below-at}
+use Rattle.ledger.proofs.Numbers.{below-at}
 use Rattle.machine.proofs.Copies.{Copying, copy-none, copy-more, copy-done}
 use borrow.Author.Needs.{needs}
 use Rattle.machine.proofs.lists.narrow.Statement.{statement}

@@ -1,7 +1,7 @@
 use native.Mathlib.Omega.{arith}
 use mathlib.Core.Path.{refl}
-use Rattle.machine.specs.Room.{rowsSize, headSize}
-use Rattle.machine.proofs.Numbers.{part-long}
+use Rattle.ledger.specs.Layout.{rowsSize, headSize}
+use Rattle.ledger.proofs.Numbers.{part-long}
 use Rattle.machine.proofs.Refreshes.{opening-long, opening-below, held-few, rows-ready, refreshed}
 use borrow.Author.Needs.{needs}
 use Rattle.machine.proofs.refresh.refresh.Statement.{statement}

@@ -1,5 +1,5 @@
 use native.Mathlib.Omega.{arith}
-use Rattle.machine.proofs.Refreshes.{memory-long, part-held, front-long, settles}
+use Rattle.machine.proofs.Refreshes.{memory-long, part-held, front-long, renews}
 use borrow.Author.Needs.{needs}
 use Rattle.machine.proofs.refresh.show_with.Statement.{statement}
 use Rattle.machine.proofs.refresh.show_with.Tie as tie
@@ -53,7 +53,7 @@ same-length-5 : tie.Need-same-length-5
 same-length-5 c = search needs
 
 returns : tie.Need-returns
-returns c = settles _ (c .before .before .before .before .before .before .before .before .before .before .before .before .before .before .before .before .before .before .before .before .before .before .before .before .before .before .before .before .args .memory .now) _ _ _ _ _ _ (c .before .before .before .before .before .number .ensures) (c .before .before .before .before .before .before .before .before .before .before .before .before .before .before .refresh .ensures) _ (c .before .before .show .ensures)
+returns c = renews _ (c .before .before .before .before .before .before .before .before .before .before .before .before .before .before .before .before .before .before .before .before .before .before .before .before .before .before .before .before .args .memory .now) _ _ _ _ _ _ (c .before .before .before .before .before .number .ensures) (c .before .before .before .before .before .before .before .before .before .before .before .before .before .before .refresh .ensures) _ (c .before .before .show .ensures)
 
 pub show-with-spec : {M : Type 1} → statement M
 show-with-spec =

@@ -2,12 +2,12 @@ use native.Mathlib.Omega.{arith}
 use mathlib.Core.Path.{_≡_, refl}
 use Prim.Native.Nat.{_≤_, _-_}
 use lib.ListN.{length}
-use Rattle.rules.specs.Meaning.{places, decides}
-use Rattle.machine.specs.Sessions.{standing}
-use Rattle.machine.specs.Memory.{entriesAt, entryAt}
+use Rattle.meaning.specs.Meaning.{places, decides}
+use Rattle.ledger.specs.Sessions.{standing}
+use Rattle.ledger.specs.Layout.{rowSize}
+use Rattle.ledger.specs.Memory.{entriesAt, entryAt}
 use Rattle.machine.proofs.Replays.{replay-none, replay-more, replay-end, safe-at}
 use Prim.Native.Nat.{_+_, _*_}
-use Rattle.machine.specs.Room.{rowSize}
 use borrow.Author.Needs.{needs}
 use Rattle.machine.proofs.replay.replay.Statement.{statement}
 use Rattle.machine.proofs.replay.replay.Tie as tie

@@ -2,9 +2,9 @@ use native.Mathlib.Omega.{arith}
 use mathlib.Core.Path.{sym, ap₂, _∙_}
 use lib.ListN.{length-take, length-drop}
 use lib.Seq.{length-take-le}
-use Rattle.machine.specs.Sessions.{opening}
-use Rattle.machine.specs.Memory.{openingAt}
-use Rattle.machine.proofs.Numbers.{tail-is}
+use Rattle.ledger.specs.Sessions.{opening}
+use Rattle.ledger.specs.Memory.{openingAt}
+use Rattle.ledger.proofs.Numbers.{tail-is}
 use Rattle.machine.proofs.Copies.{copied-is}
 use borrow.Author.Needs.{needs}
 use Rattle.machine.proofs.replay.restore.Statement.{statement}

@@ -1,4 +1,4 @@
-use Rattle.machine.proofs.Entries.{mark-1, mark-2, mark-3}
+use Rattle.ledger.proofs.Entries.{mark-1, mark-2, mark-3}
 use Rattle.machine.proofs.rows.mark_of.Statement.{statement}
 use Rattle.machine.proofs.rows.mark_of.Tie as tie
 

@@ -1,9 +1,9 @@
 use native.Mathlib.Omega.{arith}
 use mathlib.Core.Path.{_≡_, refl}
 use Prim.Native.Nat.{_≤_, _-_, _+_}
-use Rattle.machine.specs.Sessions.{marks}
-use Rattle.machine.specs.Memory.{entriesAt}
-use Rattle.machine.proofs.Entries.{marks-more, marks-le, marks-end}
+use Rattle.ledger.specs.Sessions.{marks}
+use Rattle.ledger.specs.Memory.{entriesAt}
+use Rattle.ledger.proofs.Entries.{marks-more, marks-le, marks-end}
 use borrow.Author.Needs.{needs}
 use Rattle.machine.proofs.rows.marks_among.Statement.{statement}
 use Rattle.machine.proofs.rows.marks_among.Tie as tie

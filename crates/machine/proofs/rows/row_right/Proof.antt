@@ -5,7 +5,7 @@ use Prim.Native.Nat.{ℕ}
 use lib.Dec.{ltb, eqb}
 use borrow.Author.Tests.{eq-eqb, ne-eqb}
 use Rattle.kinds.proofs.Bits.{shl-one}
-use Rattle.machine.proofs.Entries.{row-far, row-keep, row-limit, row-other, row-mark}
+use Rattle.ledger.proofs.Entries.{row-far, row-keep, row-limit, row-other, row-mark}
 use borrow.Author.Needs.{needs}
 use Rattle.machine.proofs.rows.row_right.Statement.{statement}
 use Rattle.machine.proofs.rows.row_right.Tie as tie

@@ -3,8 +3,8 @@ use mathlib.Core.Path.{_≡_}
 use mathlib.Core.Bool.{true}
 use Prim.Native.Nat.{_≤_, _-_}
 use Rattle.rules.proofs.Checks.{test-failed, test-passed}
-use Rattle.machine.specs.Memory.{rowsRight}
-use Rattle.machine.proofs.Entries.{rows-none, rows-more, rows-no, rows-end}
+use Rattle.ledger.specs.Memory.{rowsRight}
+use Rattle.ledger.proofs.Entries.{rows-none, rows-more, rows-no, rows-end}
 use borrow.Author.Needs.{needs}
 use Rattle.machine.proofs.rows.rows_right.Statement.{statement}
 use Rattle.machine.proofs.rows.rows_right.Tie as tie

@@ -2,8 +2,8 @@ use native.Mathlib.Omega.{arith}
 use mathlib.Core.Path.{_≡_, refl}
 use Prim.Native.Nat.{_≤_, _-_}
 use lib.ListN.{length, drop}
-use Rattle.machine.specs.Memory.{same}
-use Rattle.machine.proofs.Numbers.{same-no, same-on, same-end}
+use Rattle.ledger.specs.Memory.{same}
+use Rattle.ledger.proofs.Numbers.{same-no, same-on, same-end}
 use borrow.Author.Needs.{needs}
 use Rattle.machine.proofs.shown.same_masks.Statement.{statement}
 use Rattle.machine.proofs.shown.same_masks.Tie as tie

@@ -1,4 +1,4 @@
-use Rattle.rules.specs.Bounds.{top}
+use Rattle.meaning.specs.Bounds.{top}
 use native.Mathlib.Omega.{arith}
 use borrow.Author.Needs.{needs}
 use Rattle.reach.proofs.forward.joins_at.Statement.{statement}

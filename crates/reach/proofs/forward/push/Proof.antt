@@ -1,7 +1,7 @@
 use Prim.Native.Nat.{_≤_, _-_}
 use mathlib.Core.Path.{_≡_, refl}
 use lib.ListN.{length, length-set}
-use Rattle.rules.specs.Bounds.{top}
+use Rattle.meaning.specs.Bounds.{top}
 use Rattle.reach.specs.Looks.{Pushed}
 use Rattle.reach.proofs.Sweeping.{pushed-none, pushed-more, pushed-end}
 use borrow.Author.Needs.{needs}

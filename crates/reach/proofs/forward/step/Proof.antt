@@ -12,8 +12,8 @@ sweep-requires : tie.Need-sweep-requires
 sweep-requires c κs = let p = c .before .before .before .before .before .before .before .before .before .before .before .before .before .before .before .pre in
     (p .0, p .1, p .2, p .3, p .5, omega arith, omega arith, omega arith, p .9, rooms-copied (p .10) (p .11) (c .before .before .before .before .before .before .copy .ensures))
 
-settle-requires : tie.Need-settle-requires
-settle-requires c κs = search needs
+advance-requires : tie.Need-advance-requires
+advance-requires c κs = search needs
 
 add-blank : tie.Need-add-blank
 add-blank c = search needs
@@ -34,7 +34,7 @@ same-length-4 : tie.Need-same-length-4
 same-length-4 c = search needs
 
 returns : tie.Need-returns
-returns c = stepped-is (c .before .before .before .before .before .before .before .before .before .before .before .before .before .before .before .before .before .before .before .before .before .copy .ensures) (c .before .before .before .before .before .before .before .before .before .before .before .before .before .before .sweep .ensures) (c .before .before .before .before .before .before .settle .ensures) (c .before .before .blank .ensures)
+returns c = stepped-is (c .before .before .before .before .before .before .before .before .before .before .before .before .before .before .before .before .before .before .before .before .before .copy .ensures) (c .before .before .before .before .before .before .before .before .before .before .before .before .before .before .sweep .ensures) (c .before .before .before .before .before .before .advance .ensures) (c .before .before .blank .ensures)
 
 pub step-spec : {M : Type 1} → statement M
 step-spec =
@@ -42,7 +42,7 @@ step-spec =
     (tie.spec
     copy-requires
     sweep-requires
-    settle-requires
+    advance-requires
     add-blank
     blank-requires
     same-length

@@ -3,7 +3,7 @@ use mathlib.Core.Path.{_≡_, refl, sym, _∙_, ap}
 use mathlib.Core.Logic.{⊎-elim}
 use lib.ListN.{length, length-take, length-drop}
 use Rattle.rooms.specs.Tables.{turned, choices}
-use Rattle.reach.specs.Looks.{Held, Swept}
+use Rattle.reach.specs.Looks.{LiveHeld, Swept}
 use Rattle.reach.proofs.Living.{held-none}
 use Rattle.reach.proofs.Sweeping.{swept-none, swept-more, swept-skip, swept-end}
 use borrow.Author.Needs.{needs}
@@ -13,7 +13,7 @@ use Rattle.reach.proofs.forward.sweep.Tie as tie
 
 abbrev Inv-loop : tie.InvT-loop
 Inv-loop states values targets costs mask front next onward₀ hints₀ live₀ kept₀ v₀ onward hints live kept v = (v ≤ values) × (length onward ≡ length onward₀) × (length hints ≡ length hints₀)
-    × Swept (turned targets costs) states (choices v (mask .0)) front next onward₀ onward kept × Held states front live
+    × Swept (turned targets costs) states (choices v (mask .0)) front next onward₀ onward kept × LiveHeld states front live
 
 abbrev μ-loop : tie.MeasureT-loop
 μ-loop states values targets costs mask front next onward₀ hints₀ live₀ kept₀ v₀ onward hints live kept v = values - v
@@ -37,57 +37,30 @@ mul-at c = search needs
 add-end : tie.Need-add-end Inv-loop μ-loop
 add-end c = search needs
 
-sub-supported : tie.Need-sub-supported Inv-loop μ-loop
-sub-supported c = search needs
+sub-look : tie.Need-sub-look Inv-loop μ-loop
+sub-look c = search needs
 
-part-supported-start : tie.Need-part-supported-start Inv-loop μ-loop
-part-supported-start c = search needs
+part-look-start : tie.Need-part-look-start Inv-loop μ-loop
+part-look-start c = search needs
 
-part-supported-end : tie.Need-part-supported-end Inv-loop μ-loop
-part-supported-end c = search needs
+part-look-end : tie.Need-part-look-end Inv-loop μ-loop
+part-look-end c = search needs
 
-mul-supported : tie.Need-mul-supported Inv-loop μ-loop
-mul-supported c = search needs
+mul-look : tie.Need-mul-look Inv-loop μ-loop
+mul-look c = search needs
 
-sub-supported-2 : tie.Need-sub-supported-2 Inv-loop μ-loop
-sub-supported-2 c = search needs
+sub-look-2 : tie.Need-sub-look-2 Inv-loop μ-loop
+sub-look-2 c = search needs
 
-part-supported-start-2 : tie.Need-part-supported-start-2 Inv-loop μ-loop
-part-supported-start-2 c = search needs
+part-look-start-2 : tie.Need-part-look-start-2 Inv-loop μ-loop
+part-look-start-2 c = search needs
 
-part-supported-end-2 : tie.Need-part-supported-end-2 Inv-loop μ-loop
-part-supported-end-2 c = search needs
+part-look-end-2 : tie.Need-part-look-end-2 Inv-loop μ-loop
+part-look-end-2 c = search needs
 
-supported-requires : tie.Need-supported-requires Inv-loop μ-loop
-supported-requires c κs = let p = c .before .before .before .before .before .before .before .before .before .before .before .before .before .before .pre in
-    (omega arith, simp (length-take, length-drop) (omega arith), simp (length-take, length-drop) (omega arith), omega arith, omega arith, p .8, omega arith, c .before .before .before .before .before .before .before .loop .inv .4, p .9)
-
-marked-requires : tie.Need-marked-requires Inv-loop μ-loop
-marked-requires c κs = search needs
-
-sub-push : tie.Need-sub-push Inv-loop μ-loop
-sub-push c = search needs
-
-part-push-start : tie.Need-part-push-start Inv-loop μ-loop
-part-push-start c = search needs
-
-part-push-end : tie.Need-part-push-end Inv-loop μ-loop
-part-push-end c = search needs
-
-mul-push : tie.Need-mul-push Inv-loop μ-loop
-mul-push c = search needs
-
-sub-push-2 : tie.Need-sub-push-2 Inv-loop μ-loop
-sub-push-2 c = search needs
-
-part-push-start-2 : tie.Need-part-push-start-2 Inv-loop μ-loop
-part-push-start-2 c = search needs
-
-part-push-end-2 : tie.Need-part-push-end-2 Inv-loop μ-loop
-part-push-end-2 c = search needs
-
-push-requires : tie.Need-push-requires Inv-loop μ-loop
-push-requires c κs = (simp (length-take, length-drop) (omega arith), simp (length-take, length-drop) (omega arith), omega arith, omega arith, c .before .before .before .before .before .before .before .before .before .before .before .before .before .before .before .before .before .before .before .before .before .pre .8)
+look-requires : tie.Need-look-requires Inv-loop μ-loop
+look-requires c κs = let p = c .before .before .before .before .before .before .before .before .before .before .before .before .before .before .before .pre in
+    (omega arith, simp (length-take, length-drop) (omega arith), simp (length-take, length-drop) (omega arith), omega arith, omega arith, omega arith, p .8, omega arith, c .before .before .before .before .before .before .before .before .loop .inv .4, p .9)
 
 add-v : tie.Need-add-v Inv-loop μ-loop
 add-v c = search needs
@@ -101,11 +74,11 @@ loop-again c = let a = c .before .before .before .before .before .before .before
     ⊎-elim
     (λ w. (
       omega arith,
-      ap length (w .15) ∙ (w .12 .kept .1 .1 .1 .1 .0 ∙ l .inv .1),
-      ap length (w .16) ∙ (w .5 .kept .1 .1 .1 .1 .1 .1 .1 .0 ∙ l .inv .2),
+      ap length (w .11) ∙ (w .6 .kept .1 .1 .1 .1 .1 .1 .1 .1 .0 ∙ l .inv .1),
+      ap length (w .12) ∙ (w .6 .kept .1 .1 .1 .1 .1 .1 .1 .1 .1 .0 ∙ l .inv .2),
       swept-more (a .targets .now) (a .costs .now) (a .states) (a .mask .0) (a .front .now) (a .next .now) (l .v) (l .v * 64 + 64 - l .v * 64) (sym (c .before .has .ensures) ∙ w .0 .taken) (omega arith)
-          (l .inv .3) (w .12 .ensures) (w .5 .ensures .0) (w .8 .ensures) (w .15) (w .18),
-      rw (w .17) (w .5 .ensures .1),
+          (l .inv .3) (w .6 .ensures .1) (w .6 .ensures .0) (w .11) (w .14),
+      rw (w .13) (w .6 .ensures .2),
     ))
     (λ w. (
       omega arith,
@@ -137,23 +110,14 @@ sweep-spec =
     cast-at
     mul-at
     add-end
-    sub-supported
-    part-supported-start
-    part-supported-end
-    mul-supported
-    sub-supported-2
-    part-supported-start-2
-    part-supported-end-2
-    supported-requires
-    marked-requires
-    sub-push
-    part-push-start
-    part-push-end
-    mul-push
-    sub-push-2
-    part-push-start-2
-    part-push-end-2
-    push-requires
+    sub-look
+    part-look-start
+    part-look-end
+    mul-look
+    sub-look-2
+    part-look-start-2
+    part-look-end-2
+    look-requires
     add-v
     loop-less
     loop-again

@@ -2,10 +2,9 @@ use Prim.Native.Nat.{_≤_, _-_, _+_, _*_}
 use mathlib.Core.Path.{_≡_, sym, _∙_, ap}
 use mathlib.Core.Logic.{⊎-elim}
 use lib.ListN.{length, length-set, length-take, length-drop}
-use Rattle.rules.specs.Bounds.{top}
+use Rattle.meaning.specs.Bounds.{top}
 use Rattle.rooms.specs.Tables.{turned}
-use Rattle.reach.specs.Looks.{Tried}
-use Rattle.reach.proofs.Walking.{Walking, walking-starts, walking-more, walks-none, walks-some, tried-none, tried-more, turned-to, turned-fee}
+use Rattle.reach.proofs.Walking.{Tried, Walking, walking-starts, walking-more, walks-none, walks-some, tried-none, tried-more, turned-to, turned-fee}
 use borrow.Author.Needs.{needs}
 use native.Mathlib.Omega.{arith}
 use Rattle.reach.proofs.walk.walk.Statement.{statement}
@@ -65,8 +64,8 @@ loop-holds c = (omega arith, tried-none _ _ _ _ _)
 cast-loop : tie.Need-cast-loop Inv-loop μ-loop Inv-places μ-places
 cast-loop c = omega (arith, c .before .before .before .before .before .before .before .before .before .before .before .before .before .before .before .pre .0 .few-values)
 
-fits-requires : tie.Need-fits-requires Inv-loop μ-loop Inv-places μ-places
-fits-requires c κs = let p = c .before .before .before .before .before .before .before .before .before .before .before .before .before .before .before .before .before .pre .0 in
+takeable-requires : tie.Need-takeable-requires Inv-loop μ-loop Inv-places μ-places
+takeable-requires c κs = let p = c .before .before .before .before .before .before .before .before .before .before .before .before .before .before .before .before .before .pre .0 in
     let w = c .before .before .before .before .before .before .before .before .before .before .places .inv .3 in
     (p .all-targets, p .all-costs, c .before .before .before .before .before .before .copy .kept .1 .1 .0 ∙ c .before .before .before .before .before .before .before .before .before .before .places .inv .1, omega (arith, w .state, p .few-states), w .low, omega (arith, p .few-values))
 
@@ -77,7 +76,7 @@ loop-less : tie.Need-loop-less Inv-loop μ-loop Inv-places μ-places
 loop-less c = search needs
 
 loop-again : tie.Need-loop-again Inv-loop μ-loop Inv-places μ-places
-loop-again c = (omega arith, tried-more _ _ _ _ _ _ (c .before .before .before .before .loop .inv .1) (c .before .fits2 .ensures) (c .if1 .left))
+loop-again c = (omega arith, tried-more _ _ _ _ _ _ (c .before .before .before .before .loop .inv .1) (c .before .takeable .ensures) (c .if1 .left))
 
 slice-write-roster : tie.Need-slice-write-roster Inv-loop μ-loop Inv-places μ-places
 slice-write-roster c = search needs
@@ -124,7 +123,7 @@ places-again c = let p = c .before .before .before .before .before .before .befo
       c .before .before .before .before .before .before .before .before .before .before .copy .kept .1 .1 .0 ∙ o .inv .1,
       simp length-set (o .inv .2),
       walking-more (turned (a .targets .now) (a .costs .now)) (a .states) (a .values) (a .start .0) (a .spent) (a .masks .now) (a .work .now) (a .roster .now) (o .roster) (o .next) _ (o .q) (o .cost) (o .i) (c .before .before .before .before .before .before .loop .v)
-          (p .0 .few-states) (c .before .before .before .before .before .before .before .before .before .before .before .before .before .places-test .taken) (o .inv .2) (p .1) (o .inv .3) (c .before .before .before .before .before .before .before .before .before .before .copy .ensures) (c .before .before .before .before .before .before .loop .inv .1) (c .before .before .before .before .before .loop-test .left) (c .before .before .before .fits2 .ensures) (c .before .before .if1 .taken)
+          (p .0 .few-states) (c .before .before .before .before .before .before .before .before .before .before .before .before .before .places-test .taken) (o .inv .2) (p .1) (o .inv .3) (c .before .before .before .before .before .before .before .before .before .before .copy .ensures) (c .before .before .before .before .before .before .loop .inv .1) (c .before .before .before .before .before .loop-test .left) (c .before .before .before .takeable .ensures) (c .before .before .if1 .taken)
           (turned-to (a .targets .now) (a .costs .now) (o .q) (c .before .before .before .before .before .before .loop .v)) (turned-fee (a .targets .now) (a .costs .now) (o .q) (o .cost) (c .before .before .before .before .before .before .loop .v)),
     )
 
@@ -167,7 +166,7 @@ walk-spec =
     shared-slice-read-mask
     loop-holds
     cast-loop
-    fits-requires
+    takeable-requires
     add-v
     loop-less
     loop-again

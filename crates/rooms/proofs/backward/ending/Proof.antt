@@ -1,5 +1,4 @@
-use mathlib.Core.Bool.{Bool}
-use Rattle.rooms.proofs.Rooms.{bit-yes, bit-no}
+use Rattle.kinds.proofs.Bits.{bit-yes, bit-no}
 use borrow.Author.Needs.{needs}
 use Rattle.rooms.proofs.backward.ending.Statement.{statement}
 use Rattle.rooms.proofs.backward.ending.Tie as tie

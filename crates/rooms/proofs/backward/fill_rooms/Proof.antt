@@ -1,7 +1,7 @@
 use Prim.Native.Nat.{_≤_}
 use mathlib.Core.Path.{_≡_, sym, _∙_}
 use lib.ListN.{length}
-use Rattle.rules.specs.Bounds.{workSize}
+use Rattle.meaning.specs.Bounds.{workSize}
 use Rattle.rooms.specs.Tables.{turned, frame, layer, Layers, Loaded}
 use Rattle.rooms.proofs.Layering.{layers-last, layers-down, layers-end}
 use borrow.Author.Needs.{needs}

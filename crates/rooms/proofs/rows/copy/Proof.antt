@@ -9,10 +9,10 @@ use Rattle.rooms.proofs.rows.copy.Statement.{statement}
 use Rattle.rooms.proofs.rows.copy.Tie as tie
 
 abbrev Inv-loop : tie.InvT-loop
-Inv-loop count from row₀ k₀ row k = (k ≤ count) × (length row ≡ length row₀) × Filled (λ (j : ℕ). getD from j 0) k row₀ row
+Inv-loop count from row₀ i₀ row i = (i ≤ count) × (length row ≡ length row₀) × Filled (λ (j : ℕ). getD from j 0) i row₀ row
 
 abbrev μ-loop : tie.MeasureT-loop
-μ-loop count from row₀ k₀ row k = count - k
+μ-loop count from row₀ i₀ row i = count - i
 
 loop-holds : tie.Need-loop-holds Inv-loop μ-loop
 loop-holds c = (omega arith, refl, filled-none _ _)
@@ -29,8 +29,8 @@ mul-row-2 c = search needs
 slice-write-row : tie.Need-slice-write-row Inv-loop μ-loop
 slice-write-row c = search needs
 
-add-k : tie.Need-add-k Inv-loop μ-loop
-add-k c = search needs
+add-i : tie.Need-add-i Inv-loop μ-loop
+add-i c = search needs
 
 loop-less : tie.Need-loop-less Inv-loop μ-loop
 loop-less c = search needs
@@ -55,7 +55,7 @@ copy-spec =
     shared-slice-read-row
     mul-row-2
     slice-write-row
-    add-k
+    add-i
     loop-less
     loop-again
     same-length

@@ -2,7 +2,7 @@ use Prim.Native.Nat.{ℕ, _≤_, _-_, _+_, _*_}
 use mathlib.Core.Path.{_≡_, refl, _∙_}
 use lib.ListN.{length, length-take, length-drop}
 use borrow.Rule.Slice.PartMut.{same-len-mid}
-use Rattle.rules.specs.Meaning.{arcsOf}
+use Rattle.meaning.specs.Meaning.{arcsOf}
 use Rattle.rooms.specs.Tables.{turned, Same}
 use Rattle.rooms.proofs.Turning.{turned-none, turned-more, turned-end}
 use borrow.Author.Needs.{needs}

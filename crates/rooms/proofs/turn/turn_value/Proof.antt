@@ -1,7 +1,7 @@
 use Prim.Native.Nat.{ℕ, _≤_, _-_}
 use mathlib.Core.Path.{_≡_, refl}
 use lib.ListN.{length, length-set}
-use Rattle.rules.specs.Meaning.{arcsOf, target, cost}
+use Rattle.meaning.specs.Meaning.{arcsOf, target, cost}
 use Rattle.rules.proofs.Checks.{arc-place}
 use Rattle.rooms.specs.Tables.{Filled}
 use Rattle.rooms.proofs.Filling.{filled-none, filled-more, filled-end}

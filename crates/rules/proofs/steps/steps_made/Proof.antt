@@ -4,7 +4,7 @@ use Prim.Native.Nat.{ℕ, _+_, _≤_, _<_, _-_}
 use native.Mathlib.Nat.{zero-add}
 use native.Mathlib.Omega.{arith}
 use lib.ListN.{length, drop}
-use Rattle.rules.specs.Meaning.{arcsOf}
+use Rattle.meaning.specs.Meaning.{arcsOf}
 use Rattle.rules.specs.Report.{steps}
 use Rattle.rules.proofs.Walk.{value-below, steps-on, steps-stop, steps-end}
 use Rattle.rules.proofs.steps.steps_made.Statement.{statement}

@@ -1,6 +1,6 @@
 use native.Mathlib.Omega.{arith}
 use Prim.Native.Nat.{_≤_, _-_}
-use Rattle.rules.specs.Meaning.{arcsOf}
+use Rattle.meaning.specs.Meaning.{arcsOf}
 use Rattle.text.specs.Writing.{Wrote}
 use Rattle.text.proofs.Putting.{wrote-length}
 use Rattle.scribe.specs.Inner.{listed, arcText, rowText}

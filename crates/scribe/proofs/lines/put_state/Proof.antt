@@ -1,6 +1,7 @@
 use native.Mathlib.Omega.{arith}
 use Rattle.text.proofs.Putting.{wrote-none}
-use Rattle.scribe.proofs.Puts.{bit-yes, bit-no, state-some, state-none, wrote-as}
+use Rattle.kinds.proofs.Bits.{bit-yes, bit-no}
+use Rattle.scribe.proofs.Puts.{state-some, state-none, wrote-as}
 use borrow.Author.Needs.{needs}
 use Rattle.scribe.proofs.lines.put_state.Statement.{statement}
 use Rattle.scribe.proofs.lines.put_state.Tie as tie

@@ -33,8 +33,8 @@ part-push-end c = search needs
 push-requires : tie.Need-push-requires
 push-requires c κs = let p = c .before .before .before .before .before .before .before .pre in push-ready _ _ _ (p .0) _ _ _ (decide-adds _ _ _ (p .0) _ _ _ (p .1) (p .2) (c .before .if1 .left))
 
-settle-requires : tie.Need-settle-requires
-settle-requires c κs = search needs
+renew-requires : tie.Need-renew-requires
+renew-requires c κs = search needs
 
 same-length : tie.Need-same-length
 same-length c = search needs
@@ -43,7 +43,7 @@ same-length-2 : tie.Need-same-length-2
 same-length-2 c = search needs
 
 returns-2 : tie.Need-returns-2
-returns-2 c = let p = c .before .before .before .before .before .before .before .before .before .before .before .before .before .before .before .before .before .pre in decide-goes _ (c .before .before .before .before .before .before .before .before .before .before .before .before .before .before .before .before .before .args .memory .now) _ (p .0) _ _ _ (p .1) (p .2) (c .before .before .before .before .before .before .before .before .before .before .before .if1 .left) _ (c .before .before .before .before .before .before .before .before .before .push .ensures) _ (c .before .before .before .before .settle .ensures)
+returns-2 c = let p = c .before .before .before .before .before .before .before .before .before .before .before .before .before .before .before .before .before .pre in decide-goes _ (c .before .before .before .before .before .before .before .before .before .before .before .before .before .before .before .before .before .args .memory .now) _ (p .0) _ _ _ (p .1) (p .2) (c .before .before .before .before .before .before .before .before .before .before .before .if1 .left) _ (c .before .before .before .before .before .before .before .before .before .push .ensures) _ (c .before .before .before .before .renew .ensures)
 
 pub decide-spec : {M : Type 1} → statement M
 decide-spec =
@@ -59,7 +59,7 @@ decide-spec =
     part-push-start
     part-push-end
     push-requires
-    settle-requires
+    renew-requires
     same-length
     same-length-2
     returns-2)

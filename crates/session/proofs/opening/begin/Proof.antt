@@ -1,6 +1,6 @@
 use native.Mathlib.Omega.{arith}
 use lib.ListN.{length-set}
-use Rattle.machine.specs.Sessions.{opening}
+use Rattle.ledger.specs.Sessions.{opening}
 use Rattle.session.proofs.Openings.{begin-is}
 use borrow.Author.Needs.{needs}
 use Rattle.session.proofs.opening.begin.Statement.{statement}

@@ -3,7 +3,7 @@ use mathlib.Core.Path.{_≡_, refl, _∙_, ap}
 use mathlib.Core.List.{List}
 use Prim.Native.Nat.{ℕ, _≤_, _-_}
 use lib.ListN.{length, set, length-set}
-use Rattle.rules.specs.Bounds.{noTarget}
+use Rattle.meaning.specs.Bounds.{noTarget}
 use Rattle.sheet.specs.Sheets.{blank}
 use Rattle.sheet.proofs.Taking.{blank-more}
 use Rattle.sheet.proofs.take.clear.Statement.{statement}

@@ -1,0 +1,9 @@
+pub mod Bounds
+pub mod Numbers
+pub mod Entries
+pub mod Head
+pub mod Image
+pub mod Checked
+pub mod WellFormed
+pub mod Unique
+pub mod Demand

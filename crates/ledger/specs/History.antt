@@ -1,0 +1,84 @@
+-- A list of calls, the newest first: the memory after them, the answers, and, said of calls and answers alone, which decisions stand.
+use mathlib.Core.Path.{_≡_}
+use mathlib.Core.Bool.{Bool, true, cond, _||_}
+use mathlib.Core.List.{List, [], _∷_, _++_}
+use Prim.Native.Nat.{ℕ, zero, suc}
+use lib.Dec.{eqb}
+use lib.ListN.{getD, take, drop}
+use Rattle.meaning.specs.Meaning.{Place, Decision, Verdict}
+use Rattle.rules.specs.Checks.{Handed}
+use Rattle.ledger.specs.Sessions.{Ask, deciding, marking, goingBack}
+use Rattle.ledger.specs.Readiness.{Left}
+use Rattle.ledger.specs.Calls.{called}
+
+-- a call: what it is handed and asks, and the work table that it is lent
+pub record Call : Type 0 where
+  pub handed : Handed
+  pub ask : Ask
+  pub work : List ℕ
+
+-- what a call answers and leaves, lent the memory m
+abbrev pub made : Call → List ℕ → Left
+made c m = called (c .handed) (c .ask) m (c .work)
+
+-- the memory after the calls, each lent the memory as the last left it
+unfoldable pub memoryAfter : List ℕ → List Call → List ℕ
+memoryAfter m [] = m
+memoryAfter m (c ∷ cs) = made c (memoryAfter m cs) .memory
+
+-- what the caller saw: what each call asked, and its answer
+pub record Seen : Type 0 where
+  pub ask : Ask
+  pub answer : ℕ
+
+abbrev pub seen : Ask → ℕ → Seen
+seen a n = record { ask = a; answer = n }
+
+unfoldable pub seenOf : List ℕ → List Call → List Seen
+seenOf m [] = []
+seenOf m (c ∷ cs) = seen (c .ask) (made c (memoryAfter m cs) .answer) ∷ seenOf m cs
+
+-- not refused: 0, or 11, which is a result
+unfoldable pub granted : ℕ → Bool
+granted n = eqb n 0 || eqb n 11
+
+-- what the newest call not refused was handed; where all were refused, h, which the opening was
+unfoldable pub lastHanded : Handed → List ℕ → List Call → Handed
+lastHanded h m [] = h
+lastHanded h m (c ∷ cs) = cond (granted (made c (memoryAfter m cs) .answer)) (c .handed) (lastHanded h m cs)
+
+-- every call not refused was handed h; a refused one may have been handed anything
+unfoldable pub SameRules : Handed → List ℕ → List Call → Type 0
+SameRules h m [] = Unit {0}
+SameRules h m (c ∷ cs) = (granted (made c (memoryAfter m cs) .answer) ≡ true → c .handed ≡ h) × SameRules h m cs
+
+-- The calls are read from the newest back. j counts the backs, not refused, that were read and whose mark is not yet met: while it is above 0,
+-- what is read was taken back. A back adds one to j, the mark that it goes back to takes one off
+unfoldable pub stands : ℕ → Ask → List Decision
+stands zero (deciding d) = d ∷ []
+stands zero marking = []
+stands zero goingBack = []
+stands (suc j) a = []
+
+unfoldable pub marksToPass : ℕ → Ask → ℕ
+marksToPass j (deciding d) = j
+marksToPass zero marking = zero
+marksToPass (suc j) marking = j
+marksToPass j goingBack = suc j
+
+-- the decisions neither refused nor taken back, the oldest first
+unfoldable pub standingAfter : ℕ → List Seen → List Decision
+standingAfter j [] = []
+standingAfter j (s ∷ h) =
+    cond (granted (s .answer)) (standingAfter (marksToPass j (s .ask)) h ++ stands j (s .ask)) (standingAfter j h)
+
+-- what is read at the fixed places of the memory: the result, the least cost and the kept masks
+pub record Reads (n : ℕ) (m : List ℕ) (t : Verdict) : Type 0 where
+  pub result : getD m 0 0 ≡ t .answered
+  pub least : getD m 1 0 ≡ t .cheapest
+  pub kept : take n (drop 2 m) ≡ t .masks
+
+-- the limits of places
+unfoldable pub limitsOf : List Place → List ℕ
+limitsOf [] = []
+limitsOf (p ∷ ps) = p .limit ∷ limitsOf ps

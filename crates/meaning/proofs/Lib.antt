@@ -1,0 +1,7 @@
+pub mod Lists
+pub mod Members
+pub mod Order
+pub mod Kept
+pub mod Narrow
+pub mod Decisions
+pub mod Verdicts
