@@ -165,6 +165,10 @@ module _ (n q v start : ℕ) (l : List ℕ) (long : length l ≡ openingPlace + 
   unfolding rowsOf
   room-long = simp (length-take, length-drop) (omega arith)
 
+  opening-reads : drop openingPlace l ≡ openingOf n l .masks ++ openingOf n l .limits
+  unfolding openingOf openingAt
+  opening-reads = sym (take-append-drop n (drop openingPlace l))
+
   -- what is held is the image of the session read from it
   pub held-reads : l ≡ heldOf n q v start (openingOf n l) (entriesOf l)
   unfolding heldOf entriesOf countOf openingOf openingAt rowsOf
@@ -178,7 +182,7 @@ module _ (n q v start : ℕ) (l : List ℕ) (long : length l ≡ openingPlace + 
       (six-of l (omega arith) ∙ same-six _ _ _ _ _ _ _ _ _ _ _ _ (h .0 .n-is) (h .0 .q-is) (h .0 .v-is) (h .0 .start-is)
       (sym (room-decisions n v (getD l 4 0) (getD l 5 0) (rowsOf l) room-long few held-room)) (sym (room-marks n v (getD l 4 0) (getD l 5 0) (rowsOf l) room-long few held-room)))
       (ap₂ (λ (x y : List ℕ). x ++ y) gap
-      (ap₂ (λ (x y : List ℕ). x ++ y) (room-is n v (getD l 4 0) (getD l 5 0) (rowsOf l) room-long few held-room) (sym (take-append-drop n (drop openingPlace l)))
+      (ap₂ (λ (x y : List ℕ). x ++ y) (room-is n v (getD l 4 0) (getD l 5 0) (rowsOf l) room-long few held-room) opening-reads
       ∙ append-assoc (rows (entriesAt (getD l 4 0 + getD l 5 0) s)) _ _))
 
 -- entries and rows in range

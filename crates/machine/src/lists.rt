@@ -26,10 +26,10 @@ pub fn copy(to: &mut [u32], from: &[u32])
     if to.len() != from.len() {
         return;
     }
-    let mut i: usize = 0;
-    while i < from.len() {
-        to[i] = from[i];
-        i += 1;
+    let mut k: usize = 0;
+    while k < from.len() {
+        to[k] = from[k];
+        k += 1;
     }
 }
 
@@ -40,10 +40,10 @@ pub fn widen(to: &mut [u32], from: &[u16])
     if to.len() != from.len() {
         return;
     }
-    let mut i: usize = 0;
-    while i < from.len() {
-        to[i] = from[i] as u32;
-        i += 1;
+    let mut j: usize = 0;
+    while j < from.len() {
+        to[j] = from[j] as u32;
+        j += 1;
     }
 }
 

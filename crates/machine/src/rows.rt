@@ -51,13 +51,11 @@ pub(crate) fn rows_right(places: usize, values: usize, count: usize, rows: &[u32
 pub fn mark_of(kind: u32) -> u32
     ensures { λ r. ⌜ ((p x : ℕ) → r ≡ isMark (entryOf kind p x)) ⌝ }
 {
-    if kind == layout::KEEP {
-        return 0;
+    match kind {
+        layout::KEEP => 0,
+        layout::LIMIT => 0,
+        _ => 1,
     }
-    if kind == layout::LIMIT {
-        return 0;
-    }
-    1
 }
 
 // The number of marks among the first entries.

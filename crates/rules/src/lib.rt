@@ -101,10 +101,11 @@ pub fn sizes_right(places: usize, size: Size) -> bool
 pub fn tables_long(targets: &[u8], costs: &[u16]) -> bool
     ensures { λ r. ⌜ r ≡ tablesLong (now (targets .entry)) (now (costs .entry)) ⌝ }
 {
-    if targets.len() != bounds::TABLE_SIZE {
-        return false;
+    if targets.len() == bounds::TABLE_SIZE {
+        costs.len() == bounds::TABLE_SIZE
+    } else {
+        false
     }
-    costs.len() == bounds::TABLE_SIZE
 }
 
 // Whether a rule set passes the checks of answers 1, 2 and 3. A caller that has made the first two learns of the third.

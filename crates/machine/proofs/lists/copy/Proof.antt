@@ -8,10 +8,10 @@ use Rattle.machine.proofs.lists.copy.Statement.{statement}
 use Rattle.machine.proofs.lists.copy.Tie as tie
 
 abbrev Inv-loop : tie.InvT-loop
-Inv-loop to₀ from i₀ to i = (i ≤ length from) × (length to₀ ≡ length from) × Copying from to₀ i to
+Inv-loop to₀ from k₀ to k = (k ≤ length from) × (length to₀ ≡ length from) × Copying from to₀ k to
 
 abbrev μ-loop : tie.MeasureT-loop
-μ-loop to₀ from i₀ to i = length from - i
+μ-loop to₀ from k₀ to k = length from - k
 
 returns : tie.Need-returns Inv-loop μ-loop
 returns c = copied-not _ _ (c .if1 .taken)
@@ -31,8 +31,8 @@ mul-to-2 c = search needs
 slice-write-to : tie.Need-slice-write-to Inv-loop μ-loop
 slice-write-to c = omega (arith, c .before .before .loop .inv .2 .long)
 
-add-i : tie.Need-add-i Inv-loop μ-loop
-add-i c = search needs
+add-k : tie.Need-add-k Inv-loop μ-loop
+add-k c = search needs
 
 loop-less : tie.Need-loop-less Inv-loop μ-loop
 loop-less c = search needs
@@ -58,7 +58,7 @@ copy-spec =
     shared-slice-read-to
     mul-to-2
     slice-write-to
-    add-i
+    add-k
     loop-less
     loop-again
     same-length

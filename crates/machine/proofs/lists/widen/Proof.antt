@@ -8,10 +8,10 @@ use Rattle.machine.proofs.lists.widen.Statement.{statement}
 use Rattle.machine.proofs.lists.widen.Tie as tie
 
 abbrev Inv-loop : tie.InvT-loop
-Inv-loop to₀ from i₀ to i = (i ≤ length from) × (length to₀ ≡ length from) × Copying from to₀ i to
+Inv-loop to₀ from j₀ to j = (j ≤ length from) × (length to₀ ≡ length from) × Copying from to₀ j to
 
 abbrev μ-loop : tie.MeasureT-loop
-μ-loop to₀ from i₀ to i = length from - i
+μ-loop to₀ from j₀ to j = length from - j
 
 returns : tie.Need-returns Inv-loop μ-loop
 returns c = copied-not _ _ (c .if1 .taken)
@@ -26,7 +26,7 @@ shared-slice-read-to : tie.Need-shared-slice-read-to Inv-loop μ-loop
 shared-slice-read-to c = search needs
 
 cast-to : tie.Need-cast-to Inv-loop μ-loop
-cast-to c = omega (arith, c .shared-slice-known .given (c .before .before .loop .i))
+cast-to c = omega (arith, c .shared-slice-known .given (c .before .before .loop .j))
 
 mul-to-2 : tie.Need-mul-to-2 Inv-loop μ-loop
 mul-to-2 c = search needs
@@ -34,8 +34,8 @@ mul-to-2 c = search needs
 slice-write-to : tie.Need-slice-write-to Inv-loop μ-loop
 slice-write-to c = omega (arith, c .before .before .loop .inv .2 .long)
 
-add-i : tie.Need-add-i Inv-loop μ-loop
-add-i c = search needs
+add-j : tie.Need-add-j Inv-loop μ-loop
+add-j c = search needs
 
 loop-less : tie.Need-loop-less Inv-loop μ-loop
 loop-less c = search needs
@@ -62,7 +62,7 @@ widen-spec =
     cast-to
     mul-to-2
     slice-write-to
-    add-i
+    add-j
     loop-less
     loop-again
     same-length
