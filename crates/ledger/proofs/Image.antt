@@ -239,10 +239,13 @@ module _ (n q v start : ℕ) (o : Opening) (es : List Entry) (fits : WithinBound
   unfolding heldOf
   tail-of = ap (drop rowsSize) (sym (append-assoc (rows es) pad (o .masks ++ o .limits))) ∙ drop-at (rows es ++ pad) (o .masks ++ o .limits) rowsSize whole
 
+  opening-parts : openingAt n (o .masks ++ o .limits) ≡ o
+  unfolding openingAt
+  opening-parts = ap₂ opening (take-at (o .masks) (o .limits) n (fits .masks-long)) (drop-at (o .masks) (o .limits) n (fits .masks-long))
+
   pub opening-of : openingOf n mem ≡ o
-  unfolding openingOf openingAt
-  opening-of = ap (λ (t : List ℕ). opening (take n t) (drop n t)) tail-of
-      ∙ ap₂ opening (take-at (o .masks) (o .limits) n (fits .masks-long)) (drop-at (o .masks) (o .limits) n (fits .masks-long))
+  unfolding openingOf
+  opening-of = ap (openingAt n) tail-of ∙ opening-parts
 
   pub count-of : countOf mem ≡ length es
   unfolding countOf heldOf
