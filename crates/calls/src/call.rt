@@ -1,12 +1,15 @@
 // A line that asks for a call: the call is carried out upon the slices, and its line printed.
 use crate::cells;
+use crate::cells::entry;
+use crate::cells::take_8;
+use crate::cells::take_16;
 use crate::plan_calls;
-use crate::script::number_at;
+use crate::script;
 use crate::session_calls;
 use crate::sheet_calls;
 use crate::tell::sum_all;
 use crate::tell::tell_changes;
-use crate::tell::tell_word;
+use crate::tell::tell_field;
 use kinds::State;
 use rules::Size;
 
@@ -17,57 +20,46 @@ pub(crate) struct Numbers {
     pub(crate) accepting: u64,
 }
 
-// One of the five numbers.
-fn number(numbers: &[u64], k: usize) -> u64 {
-    if k < numbers.len() { numbers[k] } else { 0 }
-}
-
-fn numbers_of(numbers: &[u64]) -> Numbers {
+pub(crate) fn numbers_of(memory: &[u64]) -> Numbers {
     let size = Size {
-        states: number(numbers, 1) as usize,
-        values: number(numbers, 2) as usize,
-        start: State((number(numbers, 3) % 256) as u8),
+        states: entry(memory, cells::NUMBERS, 1) as usize,
+        values: entry(memory, cells::NUMBERS, 2) as usize,
+        start: State((entry(memory, cells::NUMBERS, 3) % 256) as u8),
     };
     Numbers {
-        places: number(numbers, 0) as usize,
+        places: entry(memory, cells::NUMBERS, 0) as usize,
         size,
-        accepting: number(numbers, 4),
+        accepting: entry(memory, cells::NUMBERS, 4),
     }
 }
 
-// A place, and what is asked for there.
-pub(crate) struct Asked {
-    pub(crate) place: usize,
-    pub(crate) amount: u64,
-}
-
-pub(crate) fn asked_at(line: &[u8], at: usize) -> Asked {
-    let place = number_at(line, at);
-    let amount = number_at(line, place.end);
-    Asked {
-        place: place.value as usize,
-        amount: amount.value,
+// Makes a call that only reads the tables, with the tables as the memory holds them.
+fn make_with_tables(word: usize, line: &[u8], memory: &mut [u64]) {
+    let mut target_room = [0u8; cells::TABLE_ROOM];
+    let mut cost_room = [0u16; cells::TABLE_ROOM];
+    let targets = take_8(memory, cells::TARGETS, &mut target_room);
+    let costs = take_16(memory, cells::COSTS, &mut cost_room);
+    match word {
+        script::FILTER | script::FIRST | script::REPORT => {
+            plan_calls::carry_out(word, line, memory, targets, costs)
+        }
+        _ => session_calls::carry_out(word, line, memory, targets, costs),
     }
 }
 
 // Makes the call that a line asks for, whichever group it is of.
-fn make(line: &[u8], numbers: Numbers, lengths: &[usize], cells: &mut [u32]) {
-    if plan_calls::carry_out(line, numbers, lengths, cells) {
-        return;
+fn make(word: usize, line: &[u8], memory: &mut [u64]) {
+    match word {
+        script::READ | script::WRITE | script::JOB => sheet_calls::carry_out(word, memory),
+        _ => make_with_tables(word, line, memory),
     }
-    if sheet_calls::carry_out(line, numbers, lengths, cells) {
-        return;
-    }
-    if session_calls::carry_out(line, numbers, lengths, cells) {
-        return;
-    }
-    tell_word(b"unknown");
 }
 
 // Carries out the call that a line asks for, and prints its line.
-pub(crate) fn call_line(line: &[u8], numbers: &[u64], lengths: &[usize], cells: &mut [u32]) {
+pub(crate) fn call_line(word: usize, line: &[u8], memory: &mut [u64]) {
     let mut before = [0u32; cells::SLICES];
-    sum_all(cells, lengths, &mut before);
-    make(line, numbers_of(numbers), lengths, cells);
-    tell_changes(cells, lengths, &before);
+    sum_all(memory, &mut before);
+    tell_field(line, 0);
+    make(word, line, memory);
+    tell_changes(memory, &before);
 }

@@ -1,4 +1,5 @@
-// The ten slices, kept one behind the other in one memory of 32-bit cells, so that a script's lines treat them alike.
+// The memory that a script works on: five numbers, the slices' lengths, and the ten slices, one behind the other. Numbers and lengths are
+// slices too, which no line names, so that all are read and set alike.
 ghost use Prim.Native.Nat.{_≤_};
 use crate::script::number_at;
 
@@ -22,10 +23,20 @@ pub(crate) const INPUT: usize = 8;
 
 pub(crate) const OUTPUT: usize = 9;
 
-// As many slices as there are.
+// As many slices as a line can name.
 pub(crate) const SLICES: usize = 10;
 
-// Room for a rule table, for the numbers of the places, and for the rest.
+// The five numbers n, Q, V, start and accepting, and the length of each slice that a line can name.
+pub(crate) const NUMBERS: usize = 10;
+
+pub(crate) const LENGTHS: usize = 11;
+
+// No slice: it has no room.
+pub(crate) const NO_SLICE: usize = 12;
+
+// Room for the numbers, for a rule table, for the numbers of the places, and for the rest.
+const NUMBERS_ROOM: usize = 5;
+
 pub(crate) const TABLE_ROOM: usize = 1100;
 
 pub(crate) const PLACES_ROOM: usize = 400;
@@ -38,16 +49,36 @@ pub(crate) const INPUT_ROOM: usize = 33000;
 
 pub(crate) const OUTPUT_ROOM: usize = 20000;
 
-// As many cells as all slices have room for.
-pub(crate) const CELLS: usize = 2 * TABLE_ROOM
-    + 4 * PLACES_ROOM
-    + WORK_ROOM
-    + SESSION_ROOM
-    + INPUT_ROOM
-    + OUTPUT_ROOM;
+// Where each slice begins: behind the one before it.
+const NUMBERS_AT: usize = 0;
+
+const LENGTHS_AT: usize = NUMBERS_AT + NUMBERS_ROOM;
+
+const TARGETS_AT: usize = LENGTHS_AT + SLICES;
+
+const COSTS_AT: usize = TARGETS_AT + TABLE_ROOM;
+
+const MASKS_AT: usize = COSTS_AT + TABLE_ROOM;
+
+const LIMITS_AT: usize = MASKS_AT + PLACES_ROOM;
+
+const KEPT_AT: usize = LIMITS_AT + PLACES_ROOM;
+
+const ROSTER_AT: usize = KEPT_AT + PLACES_ROOM;
+
+const WORK_AT: usize = ROSTER_AT + PLACES_ROOM;
+
+const SESSION_AT: usize = WORK_AT + WORK_ROOM;
+
+const INPUT_AT: usize = SESSION_AT + SESSION_ROOM;
+
+const OUTPUT_AT: usize = INPUT_AT + INPUT_ROOM;
+
+// As many cells as all have room for.
+pub(crate) const CELLS: usize = OUTPUT_AT + OUTPUT_ROOM;
 
 // As many entries as a slice has room for.
-pub(crate) fn room_of(slice: usize) -> usize {
+fn room_of(slice: usize) -> usize {
     match slice {
         TARGETS | COSTS => TABLE_ROOM,
         MASKS | LIMITS | KEPT | ROSTER => PLACES_ROOM,
@@ -55,57 +86,65 @@ pub(crate) fn room_of(slice: usize) -> usize {
         SESSION => SESSION_ROOM,
         INPUT => INPUT_ROOM,
         OUTPUT => OUTPUT_ROOM,
+        NUMBERS => NUMBERS_ROOM,
+        LENGTHS => SLICES,
         _ => 0,
     }
 }
 
-// Where a slice's cells begin: behind those of the slices before it.
+// Where a slice begins.
 fn base_of(slice: usize) -> usize {
     match slice {
-        TARGETS => 0,
-        COSTS => TABLE_ROOM,
-        MASKS => 2 * TABLE_ROOM,
-        LIMITS => 2 * TABLE_ROOM + PLACES_ROOM,
-        KEPT => 2 * TABLE_ROOM + 2 * PLACES_ROOM,
-        ROSTER => 2 * TABLE_ROOM + 3 * PLACES_ROOM,
-        WORK => 2 * TABLE_ROOM + 4 * PLACES_ROOM,
-        SESSION => 2 * TABLE_ROOM + 4 * PLACES_ROOM + WORK_ROOM,
-        INPUT => 2 * TABLE_ROOM + 4 * PLACES_ROOM + WORK_ROOM + SESSION_ROOM,
-        _ => CELLS - OUTPUT_ROOM,
+        TARGETS => TARGETS_AT,
+        COSTS => COSTS_AT,
+        MASKS => MASKS_AT,
+        LIMITS => LIMITS_AT,
+        KEPT => KEPT_AT,
+        ROSTER => ROSTER_AT,
+        WORK => WORK_AT,
+        SESSION => SESSION_AT,
+        INPUT => INPUT_AT,
+        OUTPUT => OUTPUT_AT,
+        LENGTHS => LENGTHS_AT,
+        _ => NUMBERS_AT,
     }
 }
 
-// The entry of a slice at a place.
-pub(crate) fn entry(cells: &[u32], slice: usize, place: usize) -> u32 {
-    if room_of(slice) <= place {
-        return 0;
+// The cell of a slice's entry; of an entry that the slice has no room for, one past the last cell.
+fn cell_of(slice: usize, place: usize) -> usize {
+    if place < room_of(slice) {
+        std::num::wrapping_add_usize(base_of(slice), place)
+    } else {
+        CELLS
     }
-    let at = std::num::wrapping_add_usize(base_of(slice), place);
-    if at < cells.len() { cells[at] } else { 0 }
+}
+
+// The entry of a slice at a place; 0 where the slice has no room.
+pub(crate) fn entry(memory: &[u64], slice: usize, place: usize) -> u64 {
+    let cell = cell_of(slice, place);
+    if cell < memory.len() { memory[cell] } else { 0 }
 }
 
 // A number, cut to the width of a slice's entries.
-fn cut(slice: usize, number: u64) -> u32 {
+fn cut(slice: usize, number: u64) -> u64 {
     match slice {
-        TARGETS | ROSTER | INPUT | OUTPUT => (number % 256) as u32,
-        COSTS | MASKS | KEPT => (number % 65536) as u32,
-        _ => (number % 4294967296) as u32,
+        TARGETS | ROSTER | INPUT | OUTPUT => number % 256,
+        COSTS | MASKS | KEPT => number % 65536,
+        LIMITS | WORK | SESSION => number % 4294967296,
+        _ => number,
     }
 }
 
 // Sets an entry, where the slice has room for it.
-pub(crate) fn set(cells: &mut [u32], slice: usize, place: usize, number: u64) {
-    if room_of(slice) <= place {
-        return;
-    }
-    let at = std::num::wrapping_add_usize(base_of(slice), place);
-    if at < cells.len() {
-        cells[at] = cut(slice, number);
+pub(crate) fn set(memory: &mut [u64], slice: usize, place: usize, number: u64) {
+    let cell = cell_of(slice, place);
+    if cell < memory.len() {
+        memory[cell] = cut(slice, number);
     }
 }
 
 // If a field begins at `at`, sets an entry to its number; gives the place of the entry that is set next.
-fn put_field(cells: &mut [u32], slice: usize, place: usize, line: &[u8], at: usize) -> usize {
+fn put_field(memory: &mut [u64], slice: usize, place: usize, line: &[u8], at: usize) -> usize {
     if line.len() <= at {
         return place;
     }
@@ -113,127 +152,112 @@ fn put_field(cells: &mut [u32], slice: usize, place: usize, line: &[u8], at: usi
         return place;
     }
     let number = number_at(line, at);
-    set(cells, slice, place, number.value);
+    set(memory, slice, place, number.value);
     std::num::wrapping_add_usize(place, 1)
 }
 
-// Sets the entries from a place on to the numbers of a line's fields, behind the field at `at`, which gives the place.
-pub(crate) fn put(cells: &mut [u32], slice: usize, line: &[u8], at: usize) {
-    let first = number_at(line, at);
-    let mut place = first.value as usize;
-    let mut i = first.end;
+// Sets the entries from a place on to the numbers of a line's fields, from the field at `at` on.
+pub(crate) fn put(memory: &mut [u64], slice: usize, first: usize, line: &[u8], at: usize) {
+    let mut place = first;
+    let mut i = at;
     while i < line.len() {
-        if line[i] == b'\n' {
-            return;
-        }
-        place = put_field(cells, slice, place, line, i);
+        place = put_field(memory, slice, place, line, i);
         i += 1;
     }
 }
 
 // Sets a run of entries to one number.
-pub(crate) fn fill(cells: &mut [u32], slice: usize, place: usize, count: usize, number: u64) {
+pub(crate) fn fill(memory: &mut [u64], slice: usize, place: usize, count: usize, number: u64) {
     let mut k: usize = 0;
     while k < count {
-        set(cells, slice, std::num::wrapping_add_usize(place, k), number);
+        set(
+            memory,
+            slice,
+            std::num::wrapping_add_usize(place, k),
+            number,
+        );
         k += 1;
     }
 }
 
 // Sets a slice's length, at most its room.
-pub(crate) fn set_length(lengths: &mut [usize], slice: usize, count: usize) {
-    let room = room_of(slice);
-    if slice < lengths.len() {
-        lengths[slice] = if count < room { count } else { room };
-    }
+pub(crate) fn set_length(memory: &mut [u64], slice: usize, count: u64) {
+    let room = room_of(slice) as u64;
+    set(
+        memory,
+        LENGTHS,
+        slice,
+        if count < room { count } else { room },
+    );
 }
 
-// A slice's length, of a slice that has so much room.
-pub(crate) fn lent(lengths: &[usize], slice: usize, room: usize) -> usize
+pub(crate) fn length_of(memory: &[u64], slice: usize) -> usize {
+    entry(memory, LENGTHS, slice) as usize
+}
+
+// As many entries of a slice as are lent, out of so many that there is room for.
+fn lent(memory: &[u64], slice: usize, room: usize) -> usize
     ensures { λ r. ⌜ r ≤ room ⌝ }
 {
-    if slice < lengths.len() {
-        let count = lengths[slice];
-        if count < room {
-            return count;
-        }
-    }
-    room
+    let count = length_of(memory, slice);
+    if count < room { count } else { room }
 }
 
 // What a slice holds, as far as its length goes, taken into entries of each width.
-pub(crate) fn take_8<'a>(
-    cells: &[u32],
-    lengths: &[usize],
-    slice: usize,
-    entries: &'a mut [u8],
-) -> &'a mut [u8] {
-    let count = lent(lengths, slice, entries.len());
+pub(crate) fn take_8<'a>(memory: &[u64], slice: usize, entries: &'a mut [u8]) -> &'a mut [u8] {
+    let count = lent(memory, slice, entries.len());
     let mut k: usize = 0;
     while k < count {
-        entries[k] = (entry(cells, slice, k) % 256) as u8;
+        entries[k] = (entry(memory, slice, k) % 256) as u8;
         k += 1;
     }
     &mut entries[..count]
 }
 
-pub(crate) fn take_16<'a>(
-    cells: &[u32],
-    lengths: &[usize],
-    slice: usize,
-    entries: &'a mut [u16],
-) -> &'a mut [u16] {
-    let count = lent(lengths, slice, entries.len());
+pub(crate) fn take_16<'a>(memory: &[u64], slice: usize, entries: &'a mut [u16]) -> &'a mut [u16] {
+    let count = lent(memory, slice, entries.len());
     let mut k: usize = 0;
     while k < count {
-        entries[k] = (entry(cells, slice, k) % 65536) as u16;
+        entries[k] = (entry(memory, slice, k) % 65536) as u16;
         k += 1;
     }
     &mut entries[..count]
 }
 
-pub(crate) fn take_32<'a>(
-    cells: &[u32],
-    lengths: &[usize],
-    slice: usize,
-    entries: &'a mut [u32],
-) -> &'a mut [u32] {
-    let count = lent(lengths, slice, entries.len());
+pub(crate) fn take_32<'a>(memory: &[u64], slice: usize, entries: &'a mut [u32]) -> &'a mut [u32] {
+    let count = lent(memory, slice, entries.len());
     let mut k: usize = 0;
     while k < count {
-        entries[k] = entry(cells, slice, k);
+        entries[k] = (entry(memory, slice, k) % 4294967296) as u32;
         k += 1;
     }
     &mut entries[..count]
 }
 
-// The entries put back.
-pub(crate) fn give_8(cells: &mut [u32], lengths: &[usize], slice: usize, entries: &[u8]) {
-    let count = lent(lengths, slice, entries.len());
+// The entries put back: as many as were taken.
+pub(crate) fn give_8(memory: &mut [u64], slice: usize, entries: &[u8]) {
     let mut k: usize = 0;
-    while k < count {
+    while k < entries.len() {
         let number = entries[k];
-        set(cells, slice, k, number as u64);
+        set(memory, slice, k, number as u64);
         k += 1;
     }
 }
 
-pub(crate) fn give_16(cells: &mut [u32], lengths: &[usize], slice: usize, entries: &[u16]) {
-    let count = lent(lengths, slice, entries.len());
+pub(crate) fn give_16(memory: &mut [u64], slice: usize, entries: &[u16]) {
     let mut k: usize = 0;
-    while k < count {
+    while k < entries.len() {
         let number = entries[k];
-        set(cells, slice, k, number as u64);
+        set(memory, slice, k, number as u64);
         k += 1;
     }
 }
 
-pub(crate) fn give_32(cells: &mut [u32], lengths: &[usize], slice: usize, entries: &[u32]) {
-    let count = lent(lengths, slice, entries.len());
+pub(crate) fn give_32(memory: &mut [u64], slice: usize, entries: &[u32]) {
     let mut k: usize = 0;
-    while k < count {
+    while k < entries.len() {
         let number = entries[k];
-        set(cells, slice, k, number as u64);
+        set(memory, slice, k, number as u64);
         k += 1;
     }
 }

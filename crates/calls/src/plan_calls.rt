@@ -1,6 +1,6 @@
 // The calls that work on a plan: the filter, the first roster and the prefix report. Each prints its answer and the numbers that it carries.
 use crate::call::Numbers;
-use crate::call::asked_at;
+use crate::call::numbers_of;
 use crate::cells;
 use crate::cells::give_8;
 use crate::cells::give_16;
@@ -8,37 +8,11 @@ use crate::cells::give_32;
 use crate::cells::take_8;
 use crate::cells::take_16;
 use crate::cells::take_32;
+use crate::script;
+use crate::script::pair_at;
 use crate::tell::tell_answer;
-use crate::tell::tell_field;
 use crate::tell::tell_number;
 use kinds::Value;
-use text::bytes::begins;
-
-enum PlanCall {
-    Filter,
-    First(usize, u8),
-    Report,
-}
-
-// What a line asks for: one of these calls, or something else.
-enum Asks {
-    Call(PlanCall),
-    Other,
-}
-
-fn asked_by(line: &[u8]) -> Asks {
-    if begins(line, b"filter\n") {
-        return Asks::Call(PlanCall::Filter);
-    }
-    if begins(line, b"first\t") {
-        let asked = asked_at(line, 5);
-        return Asks::Call(PlanCall::First(asked.place, (asked.amount % 256) as u8));
-    }
-    if begins(line, b"report\n") {
-        return Asks::Call(PlanCall::Report);
-    }
-    Asks::Other
-}
 
 fn filter(
     numbers: Numbers,
@@ -67,17 +41,17 @@ fn filter(
 }
 
 fn first(
+    line: &[u8],
     numbers: Numbers,
     targets: &[u8],
     costs: &[u16],
     masks: &[u16],
     limits: &[u32],
-    place: usize,
-    value: u8,
     roster: &mut [u8],
     work: &mut [u32],
 ) {
     let size = numbers.size;
+    let asked = pair_at(line, 5);
     tell_answer(filter::first_roster(
         numbers.places,
         size,
@@ -86,8 +60,8 @@ fn first(
         numbers.accepting,
         masks,
         limits,
-        place,
-        Value(value),
+        asked.first,
+        Value((asked.second % 256) as u8),
         roster,
         work,
     ));
@@ -109,7 +83,8 @@ fn report(numbers: Numbers, targets: &[u8], costs: &[u16], roster: &[u8]) {
 }
 
 fn make(
-    call: PlanCall,
+    word: usize,
+    line: &[u8],
     numbers: Numbers,
     targets: &[u8],
     costs: &[u16],
@@ -119,52 +94,35 @@ fn make(
     roster: &mut [u8],
     work: &mut [u32],
 ) {
-    match call {
-        PlanCall::Filter => filter(numbers, targets, costs, masks, limits, kept, work),
-        PlanCall::First(place, value) => first(
-            numbers,
-            targets,
-            costs,
-            masks,
-            limits,
-            place,
-            value,
-            roster,
-            work,
-        ),
-        PlanCall::Report => report(numbers, targets, costs, roster),
+    match word {
+        script::FILTER => filter(numbers, targets, costs, masks, limits, kept, work),
+        script::FIRST => first(line, numbers, targets, costs, masks, limits, roster, work),
+        _ => report(numbers, targets, costs, roster),
     }
 }
 
-// Makes the call that a line asks for, with the slices as the cells hold them, and puts back what it may have written; says whether the line
-// asks for one of these calls.
+// Makes a call with the slices as the memory holds them, and puts back what it may have written.
 pub(crate) fn carry_out(
+    word: usize,
     line: &[u8],
-    numbers: Numbers,
-    lengths: &[usize],
-    cells: &mut [u32],
-) -> bool {
-    let Asks::Call(call) = asked_by(line) else {
-        return false;
-    };
-    tell_field(line);
-    let mut target_room = [0u8; cells::TABLE_ROOM];
-    let mut cost_room = [0u16; cells::TABLE_ROOM];
+    memory: &mut [u64],
+    targets: &[u8],
+    costs: &[u16],
+) {
     let mut mask_room = [0u16; cells::PLACES_ROOM];
     let mut limit_room = [0u32; cells::PLACES_ROOM];
     let mut kept_room = [0u16; cells::PLACES_ROOM];
     let mut roster_room = [0u8; cells::PLACES_ROOM];
     let mut work_room = [0u32; cells::WORK_ROOM];
-    let held: &[u32] = cells;
-    let targets = take_8(held, lengths, cells::TARGETS, &mut target_room);
-    let costs = take_16(held, lengths, cells::COSTS, &mut cost_room);
-    let masks = take_16(held, lengths, cells::MASKS, &mut mask_room);
-    let limits = take_32(held, lengths, cells::LIMITS, &mut limit_room);
-    let kept = take_16(held, lengths, cells::KEPT, &mut kept_room);
-    let roster = take_8(held, lengths, cells::ROSTER, &mut roster_room);
-    let work = take_32(held, lengths, cells::WORK, &mut work_room);
+    let masks = take_16(memory, cells::MASKS, &mut mask_room);
+    let limits = take_32(memory, cells::LIMITS, &mut limit_room);
+    let kept = take_16(memory, cells::KEPT, &mut kept_room);
+    let roster = take_8(memory, cells::ROSTER, &mut roster_room);
+    let work = take_32(memory, cells::WORK, &mut work_room);
+    let numbers = numbers_of(memory);
     make(
-        call,
+        word,
+        line,
         numbers,
         targets,
         costs,
@@ -174,8 +132,7 @@ pub(crate) fn carry_out(
         roster,
         work,
     );
-    give_16(cells, lengths, cells::KEPT, kept);
-    give_8(cells, lengths, cells::ROSTER, roster);
-    give_32(cells, lengths, cells::WORK, work);
-    true
+    give_16(memory, cells::KEPT, kept);
+    give_8(memory, cells::ROSTER, roster);
+    give_32(memory, cells::WORK, work);
 }

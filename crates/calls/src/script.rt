@@ -2,6 +2,46 @@
 ghost use Prim.Native.Nat.{_≤_};
 ghost use lib.ListN.{length};
 use crate::cells;
+use text::bytes::begins;
+
+// The words that a line begins with, in the order of `word_of`.
+pub(crate) const REMARK: usize = 0;
+
+pub(crate) const SIZE: usize = 1;
+
+pub(crate) const LENGTH: usize = 2;
+
+pub(crate) const PUT: usize = 3;
+
+pub(crate) const FILL: usize = 4;
+
+pub(crate) const SHOW: usize = 5;
+
+pub(crate) const BYTES: usize = 6;
+
+pub(crate) const FILTER: usize = 7;
+
+pub(crate) const FIRST: usize = 8;
+
+pub(crate) const REPORT: usize = 9;
+
+pub(crate) const READ: usize = 10;
+
+pub(crate) const WRITE: usize = 11;
+
+pub(crate) const JOB: usize = 12;
+
+pub(crate) const OPEN: usize = 13;
+
+pub(crate) const KEEP: usize = 14;
+
+pub(crate) const LIMIT: usize = 15;
+
+pub(crate) const MARK: usize = 16;
+
+pub(crate) const BACK: usize = 17;
+
+pub(crate) const UNKNOWN: usize = BACK + 1;
 
 // A field's number, and where the field ends.
 pub(crate) struct Number {
@@ -39,9 +79,24 @@ pub(crate) fn number_at(line: &[u8], at: usize) -> Number {
     Number { value, end }
 }
 
+// The numbers of two fields: how many or where, and what.
+pub(crate) struct Pair {
+    pub(crate) first: usize,
+    pub(crate) second: u64,
+}
+
+pub(crate) fn pair_at(line: &[u8], at: usize) -> Pair {
+    let first = number_at(line, at);
+    let second = number_at(line, first.end);
+    Pair {
+        first: first.value as usize,
+        second: second.value,
+    }
+}
+
 // Where the field that begins at a place ends.
 pub(crate) fn field_end(line: &[u8], at: usize) -> usize
-    ensures { λ r. ⌜ (at ≤ length (now (line .entry)) → r ≤ length (now (line .entry))) ⌝ }
+    ensures { λ r. ⌜ (at ≤ r) × (at ≤ length (now (line .entry)) → r ≤ length (now (line .entry))) ⌝ }
 {
     let mut end = at;
     while end < line.len() {
@@ -54,14 +109,41 @@ pub(crate) fn field_end(line: &[u8], at: usize) -> usize
     end
 }
 
-// The slice named in the field that begins at a place: its first letter tells. Where none is named, one past the last.
+// The number of the word that a line begins with. The words stand one behind the other, and each ends with the byte that must follow its
+// letters. Where the line begins with none of them, as many as there are.
+fn word_among(line: &[u8], words: &[u8]) -> usize {
+    let mut number: usize = 0;
+    let mut start: usize = 0;
+    let mut end: usize = 0;
+    while end < words.len() {
+        let byte = words[end];
+        end += 1;
+        if byte < b'a' {
+            if begins(line, &words[start..end]) {
+                return number;
+            }
+            start = end;
+            number = std::num::wrapping_add_usize(number, 1);
+        }
+    }
+    number
+}
+
+pub(crate) fn word_of(line: &[u8]) -> usize {
+    word_among(
+        line,
+        b"#size\tlength\tput\tfill\tshow\tbytes\tfilter\nfirst\treport\nread\nwrite\njob\nopen\nkeep\tlimit\tmark\nback\n",
+    )
+}
+
+// The slice named in the field that begins at a place: its first letter tells.
 pub(crate) fn slice_at(line: &[u8], at: usize) -> usize {
     if line.len() <= at {
-        return cells::SLICES;
+        return cells::NO_SLICE;
     }
     let letter = at + 1;
     if line.len() <= letter {
-        return cells::SLICES;
+        return cells::NO_SLICE;
     }
     match line[letter] {
         b't' => cells::TARGETS,
@@ -74,6 +156,6 @@ pub(crate) fn slice_at(line: &[u8], at: usize) -> usize {
         b's' => cells::SESSION,
         b'i' => cells::INPUT,
         b'o' => cells::OUTPUT,
-        _ => cells::SLICES,
+        _ => cells::NO_SLICE,
     }
 }

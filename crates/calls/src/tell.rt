@@ -1,6 +1,6 @@
 // What is printed: numbers after tabs, and each slice that a call has changed.
-use crate::cells;
 use crate::cells::entry;
+use crate::cells::length_of;
 use crate::script::field_end;
 use libc::STDOUT_FILENO;
 use rules::Answer;
@@ -27,23 +27,38 @@ pub(crate) fn tell_answer(answer: Answer) {
     tell_number(answer.number() as u64);
 }
 
-// The field that begins a line.
-pub(crate) fn tell_field(line: &[u8]) {
-    let end = field_end(line, 0);
-    tell_word(&line[..end]);
+// A field of a line, with the tab before it.
+pub(crate) fn tell_field(line: &[u8], number: usize) {
+    let mut at: usize = 0;
+    let mut k: usize = 0;
+    while k < number {
+        at = field_end(line, at);
+        k += 1;
+    }
+    let end = field_end(line, at);
+    tell_word(&line[at..end]);
+}
+
+// The name of a slice, after a tab.
+fn tell_name(slice: usize) {
+    tell_field(
+        b"\ttargets\tcosts\tmasks\tlimits\tkept\troster\twork\tsession\tinput\toutput",
+        slice,
+    );
 }
 
 // The checksum with one more entry.
-fn mixed(sum: u32, entry: u32) -> u32 {
-    ((sum as u64 * 65599 + entry as u64) % 4294967291) as u32
+fn mixed(sum: u32, entry: u64) -> u32 {
+    ((sum as u64 * 65599 + entry % 4294967296) % 4294967291) as u32
 }
 
-fn sum_of(cells: &[u32], slice: usize, length: usize) -> Sum {
+fn sum_of(memory: &[u64], slice: usize) -> Sum {
+    let length = length_of(memory, slice);
     let mut sum: u32 = 0;
     let mut zeros = true;
     let mut k: usize = 0;
     while k < length {
-        let number = entry(cells, slice, k);
+        let number = entry(memory, slice, k);
         sum = mixed(sum, number);
         if number != 0 {
             zeros = false;
@@ -54,53 +69,34 @@ fn sum_of(cells: &[u32], slice: usize, length: usize) -> Sum {
 }
 
 // The checksum of each slice.
-pub(crate) fn sum_all(cells: &[u32], lengths: &[usize], sums: &mut [u32]) {
+pub(crate) fn sum_all(memory: &[u64], sums: &mut [u32]) {
     let mut slice: usize = 0;
     while slice < sums.len() {
-        let summed = sum_of(
-            cells,
-            slice,
-            cells::lent(lengths, slice, cells::room_of(slice)),
-        );
+        let summed = sum_of(memory, slice);
         sums[slice] = summed.sum;
         slice += 1;
     }
 }
 
-// The name of a slice, after a tab.
-fn tell_name(slice: usize) {
-    match slice {
-        cells::TARGETS => tell_word(b"\ttargets"),
-        cells::COSTS => tell_word(b"\tcosts"),
-        cells::MASKS => tell_word(b"\tmasks"),
-        cells::LIMITS => tell_word(b"\tlimits"),
-        cells::KEPT => tell_word(b"\tkept"),
-        cells::ROSTER => tell_word(b"\troster"),
-        cells::WORK => tell_word(b"\twork"),
-        cells::SESSION => tell_word(b"\tsession"),
-        cells::INPUT => tell_word(b"\tinput"),
-        _ => tell_word(b"\toutput"),
-    }
-}
-
 // Entries as they are.
-pub(crate) fn tell_entries(cells: &[u32], slice: usize, first: usize, end: usize) {
+fn tell_entries(memory: &[u64], slice: usize, first: usize, end: usize) {
     let mut k = first;
     while k < end {
-        tell_number(entry(cells, slice, k) as u64);
+        tell_number(entry(memory, slice, k));
         k += 1;
     }
 }
 
 // A slice's name and content, if it has changed.
-fn tell_change(cells: &[u32], slice: usize, length: usize, before: u32) {
-    let summed = sum_of(cells, slice, length);
+fn tell_change(memory: &[u64], slice: usize, before: u32) {
+    let summed = sum_of(memory, slice);
     if summed.sum == before {
         return;
     }
     tell_name(slice);
+    let length = length_of(memory, slice);
     if length <= SHORT {
-        tell_entries(cells, slice, 0, length);
+        tell_entries(memory, slice, 0, length);
     } else if summed.zeros {
         tell_word(b"\tzeros");
     } else {
@@ -110,25 +106,25 @@ fn tell_change(cells: &[u32], slice: usize, length: usize, before: u32) {
 }
 
 // The end of a call's line: each slice whose checksum is another than before.
-pub(crate) fn tell_changes(cells: &[u32], lengths: &[usize], before: &[u32]) {
+pub(crate) fn tell_changes(memory: &[u64], before: &[u32]) {
     let mut slice: usize = 0;
     while slice < before.len() {
-        tell_change(
-            cells,
-            slice,
-            cells::lent(lengths, slice, cells::room_of(slice)),
-            before[slice],
-        );
+        tell_change(memory, slice, before[slice]);
         slice += 1;
     }
     tell_word(b"\n");
 }
 
 // A line with a run of a slice's entries, as far as the slice goes.
-pub(crate) fn show(cells: &[u32], lengths: &[usize], slice: usize, place: usize, count: usize) {
-    let length = cells::lent(lengths, slice, cells::room_of(slice));
+pub(crate) fn show(memory: &[u64], slice: usize, place: usize, count: usize) {
+    let length = length_of(memory, slice);
     let end = std::num::wrapping_add_usize(place, count);
     tell_word(b"show");
-    tell_entries(cells, slice, place, if end < length { end } else { length });
+    tell_entries(
+        memory,
+        slice,
+        place,
+        if end < length { end } else { length },
+    );
     tell_word(b"\n");
 }

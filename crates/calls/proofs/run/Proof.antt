@@ -6,13 +6,13 @@ use Rattle.calls.proofs.run.Statement.{statement}
 use Rattle.calls.proofs.run.Tie as tie
 
 abbrev Inv-loop : tie.InvT-loop
-Inv-loop script numbers₀ lengths₀ cells₀ at₀ numbers lengths cells at = (length numbers ≡ length numbers₀) × (length lengths ≡ length lengths₀) × (length cells ≡ length cells₀)
+Inv-loop script memory₀ at₀ memory at = length memory ≡ length memory₀
 
 abbrev μ-loop : tie.MeasureT-loop
-μ-loop script numbers₀ lengths₀ cells₀ at₀ numbers lengths cells at = length script - at
+μ-loop script memory₀ at₀ memory at = length script - at
 
 loop-holds : tie.Need-loop-holds Inv-loop μ-loop
-loop-holds c = (refl, refl, refl)
+loop-holds c = refl
 
 sub-step : tie.Need-sub-step Inv-loop μ-loop
 sub-step c = search needs
@@ -38,12 +38,6 @@ loop-again c = search needs
 same-length : tie.Need-same-length Inv-loop μ-loop
 same-length c = search needs
 
-same-length-2 : tie.Need-same-length-2 Inv-loop μ-loop
-same-length-2 c = search needs
-
-same-length-3 : tie.Need-same-length-3 Inv-loop μ-loop
-same-length-3 c = search needs
-
 returns : tie.Need-returns Inv-loop μ-loop
 returns c = search needs
 
@@ -62,6 +56,4 @@ run-spec =
     loop-less
     loop-again
     same-length
-    same-length-2
-    same-length-3
     returns)

@@ -6,10 +6,10 @@ use Rattle.calls.proofs.cells.fill.Statement.{statement}
 use Rattle.calls.proofs.cells.fill.Tie as tie
 
 abbrev Inv-loop : tie.InvT-loop
-Inv-loop cells₀ slice place count number k₀ cells k = length cells ≡ length cells₀
+Inv-loop memory₀ slice place count number k₀ memory k = length memory ≡ length memory₀
 
 abbrev μ-loop : tie.MeasureT-loop
-μ-loop cells₀ slice place count number k₀ cells k = count - k
+μ-loop memory₀ slice place count number k₀ memory k = count - k
 
 loop-holds : tie.Need-loop-holds Inv-loop μ-loop
 loop-holds c = refl

@@ -1,5 +1,5 @@
-use native.Mathlib.Omega.{arith}
 use mathlib.Core.Path.{_≡_, refl}
+use native.Mathlib.Omega.{arith}
 use lib.ListN.{length}
 use Prim.Native.Nat.{_-_}
 use borrow.Author.Needs.{needs}
@@ -7,13 +7,10 @@ use Rattle.calls.proofs.cells.give_16.Statement.{statement}
 use Rattle.calls.proofs.cells.give_16.Tie as tie
 
 abbrev Inv-loop : tie.InvT-loop
-Inv-loop cells₀ lengths slice entries count k₀ cells k = length cells ≡ length cells₀
+Inv-loop memory₀ slice entries k₀ memory k = length memory ≡ length memory₀
 
 abbrev μ-loop : tie.MeasureT-loop
-μ-loop cells₀ lengths slice entries count k₀ cells k = count - k
-
-lent-requires : tie.Need-lent-requires Inv-loop μ-loop
-lent-requires c κs = search needs
+μ-loop memory₀ slice entries k₀ memory k = length entries - k
 
 loop-holds : tie.Need-loop-holds Inv-loop μ-loop
 loop-holds c = refl
@@ -25,7 +22,7 @@ shared-slice-read-number : tie.Need-shared-slice-read-number Inv-loop μ-loop
 shared-slice-read-number c = search needs
 
 cast-set : tie.Need-cast-set Inv-loop μ-loop
-cast-set c = omega (arith, c .before .shared-slice-known3 .given (c .before .before .before .loop .k))
+cast-set c = omega (arith, c .before .shared-slice-known2 .given (c .before .before .before .loop .k))
 
 set-requires : tie.Need-set-requires Inv-loop μ-loop
 set-requires c κs = search needs
@@ -51,7 +48,6 @@ give-16-spec =
     (tie.spec
     Inv-loop
     μ-loop
-    lent-requires
     loop-holds
     mul-number
     shared-slice-read-number

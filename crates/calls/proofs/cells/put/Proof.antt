@@ -6,25 +6,13 @@ use Rattle.calls.proofs.cells.put.Statement.{statement}
 use Rattle.calls.proofs.cells.put.Tie as tie
 
 abbrev Inv-loop : tie.InvT-loop
-Inv-loop cells₀ slice line at place₀ i₀ cells place i = length cells ≡ length cells₀
+Inv-loop memory₀ slice first line at place₀ i₀ memory place i = length memory ≡ length memory₀
 
 abbrev μ-loop : tie.MeasureT-loop
-μ-loop cells₀ slice line at place₀ i₀ cells place i = length line - i
-
-number-at-requires : tie.Need-number-at-requires Inv-loop μ-loop
-number-at-requires c κs = search needs
+μ-loop memory₀ slice first line at place₀ i₀ memory place i = length line - i
 
 loop-holds : tie.Need-loop-holds Inv-loop μ-loop
 loop-holds c = refl
-
-shared-slice-read-if1 : tie.Need-shared-slice-read-if1 Inv-loop μ-loop
-shared-slice-read-if1 c = search needs
-
-same-length : tie.Need-same-length Inv-loop μ-loop
-same-length c = search needs
-
-returns : tie.Need-returns Inv-loop μ-loop
-returns c = search needs
 
 put-field-requires : tie.Need-put-field-requires Inv-loop μ-loop
 put-field-requires c κs = search needs
@@ -38,26 +26,13 @@ loop-less c = search needs
 loop-again : tie.Need-loop-again Inv-loop μ-loop
 loop-again c = search needs
 
-same-length-2 : tie.Need-same-length-2 Inv-loop μ-loop
-same-length-2 c = search needs
+same-length : tie.Need-same-length Inv-loop μ-loop
+same-length c = search needs
 
-returns-2 : tie.Need-returns-2 Inv-loop μ-loop
-returns-2 c = search needs
+returns : tie.Need-returns Inv-loop μ-loop
+returns c = search needs
 
 pub put-spec : {M : Type 1} → statement M
 put-spec =
     tie.close
-    (tie.spec
-    Inv-loop
-    μ-loop
-    number-at-requires
-    loop-holds
-    shared-slice-read-if1
-    same-length
-    returns
-    put-field-requires
-    add-i
-    loop-less
-    loop-again
-    same-length-2
-    returns-2)
+    (tie.spec Inv-loop μ-loop loop-holds put-field-requires add-i loop-less loop-again same-length returns)

@@ -1,5 +1,5 @@
-use native.Mathlib.Omega.{arith}
 use mathlib.Core.Path.{_≡_, refl, sym}
+use native.Mathlib.Omega.{arith}
 use lib.ListN.{length}
 use Prim.Native.Nat.{_-_}
 use lib.Seq.{length-take-le}
@@ -8,10 +8,10 @@ use Rattle.calls.proofs.cells.take_32.Statement.{statement}
 use Rattle.calls.proofs.cells.take_32.Tie as tie
 
 abbrev Inv-loop : tie.InvT-loop
-Inv-loop cells lengths slice entries₀ count k₀ entries k = length entries ≡ length entries₀
+Inv-loop memory slice entries₀ count k₀ entries k = length entries ≡ length entries₀
 
 abbrev μ-loop : tie.MeasureT-loop
-μ-loop cells lengths slice entries₀ count k₀ entries k = count - k
+μ-loop memory slice entries₀ count k₀ entries k = count - k
 
 lent-requires : tie.Need-lent-requires Inv-loop μ-loop
 lent-requires c κs = search needs
@@ -21,6 +21,9 @@ loop-holds c = refl
 
 entry-requires : tie.Need-entry-requires Inv-loop μ-loop
 entry-requires c κs = search needs
+
+cast-entries : tie.Need-cast-entries Inv-loop μ-loop
+cast-entries c = search needs
 
 mul-entries : tie.Need-mul-entries Inv-loop μ-loop
 mul-entries c = search needs
@@ -52,6 +55,7 @@ take-32-spec =
     lent-requires
     loop-holds
     entry-requires
+    cast-entries
     mul-entries
     slice-write-entries
     add-k

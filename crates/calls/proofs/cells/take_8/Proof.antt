@@ -1,5 +1,5 @@
-use native.Mathlib.Omega.{arith}
 use mathlib.Core.Path.{_≡_, refl, sym}
+use native.Mathlib.Omega.{arith}
 use lib.ListN.{length}
 use Prim.Native.Nat.{_-_}
 use lib.Seq.{length-take-le}
@@ -8,10 +8,10 @@ use Rattle.calls.proofs.cells.take_8.Statement.{statement}
 use Rattle.calls.proofs.cells.take_8.Tie as tie
 
 abbrev Inv-loop : tie.InvT-loop
-Inv-loop cells lengths slice entries₀ count k₀ entries k = length entries ≡ length entries₀
+Inv-loop memory slice entries₀ count k₀ entries k = length entries ≡ length entries₀
 
 abbrev μ-loop : tie.MeasureT-loop
-μ-loop cells lengths slice entries₀ count k₀ entries k = count - k
+μ-loop memory slice entries₀ count k₀ entries k = count - k
 
 lent-requires : tie.Need-lent-requires Inv-loop μ-loop
 lent-requires c κs = search needs

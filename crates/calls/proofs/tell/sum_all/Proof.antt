@@ -6,19 +6,13 @@ use Rattle.calls.proofs.tell.sum_all.Statement.{statement}
 use Rattle.calls.proofs.tell.sum_all.Tie as tie
 
 abbrev Inv-loop : tie.InvT-loop
-Inv-loop cells lengths sums₀ slice₀ sums slice = length sums ≡ length sums₀
+Inv-loop memory sums₀ slice₀ sums slice = length sums ≡ length sums₀
 
 abbrev μ-loop : tie.MeasureT-loop
-μ-loop cells lengths sums₀ slice₀ sums slice = length sums₀ - slice
+μ-loop memory sums₀ slice₀ sums slice = length sums₀ - slice
 
 loop-holds : tie.Need-loop-holds Inv-loop μ-loop
 loop-holds c = refl
-
-room-of-requires : tie.Need-room-of-requires Inv-loop μ-loop
-room-of-requires c κs = search needs
-
-lent-requires : tie.Need-lent-requires Inv-loop μ-loop
-lent-requires c κs = search needs
 
 sum-of-requires : tie.Need-sum-of-requires Inv-loop μ-loop
 sum-of-requires c κs = search needs
@@ -51,8 +45,6 @@ sum-all-spec =
     Inv-loop
     μ-loop
     loop-holds
-    room-of-requires
-    lent-requires
     sum-of-requires
     mul-sums
     slice-write-sums

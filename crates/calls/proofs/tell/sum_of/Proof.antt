@@ -4,10 +4,13 @@ use Rattle.calls.proofs.tell.sum_of.Statement.{statement}
 use Rattle.calls.proofs.tell.sum_of.Tie as tie
 
 abbrev Inv-loop : tie.InvT-loop
-Inv-loop cells slice length sum₀ zeros₀ k₀ sum zeros k = k ≤ length
+Inv-loop memory slice length sum₀ zeros₀ k₀ sum zeros k = k ≤ length
 
 abbrev μ-loop : tie.MeasureT-loop
-μ-loop cells slice length sum₀ zeros₀ k₀ sum zeros k = length - k
+μ-loop memory slice length sum₀ zeros₀ k₀ sum zeros k = length - k
+
+length-of-requires : tie.Need-length-of-requires Inv-loop μ-loop
+length-of-requires c κs = search needs
 
 loop-holds : tie.Need-loop-holds Inv-loop μ-loop
 loop-holds c = search needs
@@ -36,6 +39,7 @@ sum-of-spec =
     (tie.spec
     Inv-loop
     μ-loop
+    length-of-requires
     loop-holds
     entry-requires
     mixed-requires

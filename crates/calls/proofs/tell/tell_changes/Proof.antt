@@ -5,19 +5,13 @@ use Rattle.calls.proofs.tell.tell_changes.Statement.{statement}
 use Rattle.calls.proofs.tell.tell_changes.Tie as tie
 
 abbrev Inv-loop : tie.InvT-loop
-Inv-loop cells lengths before slice₀ t5 slice = slice ≤ length before
+Inv-loop memory before slice₀ t5 slice = slice ≤ length before
 
 abbrev μ-loop : tie.MeasureT-loop
-μ-loop cells lengths before slice₀ t5 slice = length before - slice
+μ-loop memory before slice₀ t5 slice = length before - slice
 
 loop-holds : tie.Need-loop-holds Inv-loop μ-loop
 loop-holds c = search needs
-
-room-of-requires : tie.Need-room-of-requires Inv-loop μ-loop
-room-of-requires c κs = search needs
-
-lent-requires : tie.Need-lent-requires Inv-loop μ-loop
-lent-requires c κs = search needs
 
 mul-tell-change : tie.Need-mul-tell-change Inv-loop μ-loop
 mul-tell-change c = search needs
@@ -53,8 +47,6 @@ tell-changes-spec =
     Inv-loop
     μ-loop
     loop-holds
-    room-of-requires
-    lent-requires
     mul-tell-change
     shared-slice-read-tell-change
     tell-change-requires

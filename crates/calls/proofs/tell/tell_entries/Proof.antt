@@ -4,19 +4,16 @@ use Rattle.calls.proofs.tell.tell_entries.Statement.{statement}
 use Rattle.calls.proofs.tell.tell_entries.Tie as tie
 
 abbrev Inv-loop : tie.InvT-loop
-Inv-loop cells slice first end k₀ k = first ≤ k
+Inv-loop memory slice first end k₀ k = first ≤ k
 
 abbrev μ-loop : tie.MeasureT-loop
-μ-loop cells slice first end k₀ k = end - k
+μ-loop memory slice first end k₀ k = end - k
 
 loop-holds : tie.Need-loop-holds Inv-loop μ-loop
 loop-holds c = search needs
 
 entry-requires : tie.Need-entry-requires Inv-loop μ-loop
 entry-requires c κs = search needs
-
-cast-tell-number : tie.Need-cast-tell-number Inv-loop μ-loop
-cast-tell-number c = search needs
 
 tell-number-requires : tie.Need-tell-number-requires Inv-loop μ-loop
 tell-number-requires c κs = search needs
@@ -41,7 +38,6 @@ tell-entries-spec =
     μ-loop
     loop-holds
     entry-requires
-    cast-tell-number
     tell-number-requires
     add-k
     loop-less
