@@ -10,13 +10,13 @@ use lib.ListN.{length, getD, set, take, length-set}
 use lib.Seq.{ext-getD}
 use Rattle.kinds.specs.Bits.{width, bit, maskOf}
 use Rattle.kinds.proofs.Bits.{bit-mask, mask-lt, meet-mask}
-use Rattle.meaning.specs.Meaning.{Rules, arcsOf, rulesOf, places, rosters, has, first, Keep}
+use Rattle.meaning.specs.Meaning.{Rules, rulesOf, places, rosters, has, first, Keep}
 use Rattle.meaning.proofs.Narrow.{meets, keep-meets, narrow}
 use Rattle.meaning.proofs.Members.{Below, roster-in, length-places}
 use Rattle.meaning.proofs.Decisions.{keep-stored}
 use Rattle.meaning.proofs.Lists.{those-same}
 use Rattle.rules.specs.Answers.{zeros}
-use Rattle.rooms.specs.Tables.{Filled, Net, Same, frame, Layers, Sizes}
+use Rattle.rooms.specs.Tables.{Filled, turned, Sizes, Prepared}
 use Rattle.reach.specs.Looks.{Meant, Walks}
 use Rattle.filter.specs.Inner.{Finds}
 
@@ -73,12 +73,12 @@ ready-alone r e = record {
 }
 
 -- what the walk finds is the first roster with the value there
-pub finds-is : {a : Net} {qs vs start spent i v accepting : ℕ} {t c ms ls own work mid is was out : List ℕ} {found : Bool} → Sizes qs vs t c ms ls work → i < length ms → own ≡ alone ms i v
-    → Same (arcsOf qs vs t c) vs a → Layers (frame a qs vs accepting) own ls 0 mid → Walks a qs vs start spent own mid was out found
+pub finds-is : {qs vs start spent i v accepting : ℕ} {t c ms ls own to fee next work mid is was out : List ℕ} {found : Bool} → Sizes qs vs t c ms ls work → i < length ms → own ≡ alone ms i v
+    → Prepared qs vs t c accepting own ls to fee next mid → Walks (turned to fee) qs vs start spent own mid was out found
     → length mid ≡ length work → is ≡ zeros mid
     → Finds (rosters (rulesOf qs vs t c accepting) start spent (places ms ls)) i v was out work is found
-finds-is {a} {qs} {vs} {start} {spent} {i} {v} {accepting} {t} {c} {ms} {ls} {own} {work} {mid} {is} p h o s r w l z =
-    let m : Meant a qs vs own mid t c ls accepting = record { limits = p .all-limits ∙ sym (alone-long ms i _ o); arcs = s; rooms = r } in
+finds-is {qs} {vs} {start} {spent} {i} {v} {accepting} {t} {c} {ms} {ls} {own} {to} {fee} {mid = mid} p h o r w l z =
+    let m : Meant (turned to fee) qs vs own mid t c ls accepting = record { limits = p .all-limits ∙ sym (alone-long ms i _ o); arcs = r .arcs; rooms = r .rooms } in
     let e = first-alone (rulesOf qs vs t c accepting) start spent i v ms ls (p .few-values) (p .all-limits) h
     ∙ ap (λ (x : List ℕ). take 1 (rosters (rulesOf qs vs t c accepting) start spent (places x ls))) (sym o) in
     record {

@@ -12,13 +12,9 @@ use kinds::Value;
 use reach::forward;
 use reach::walk;
 use rooms::backward;
-use rooms::rows;
-use rooms::turn;
+use rooms::backward::BYTES;
 use rules::bounds;
 use rules::numbers::clear;
-
-// As many numbers as a target byte can name.
-pub(crate) const BYTES: usize = 256;
 
 // The filter, with room for what it works out on the way.
 pub(crate) fn filter_in(
@@ -43,16 +39,16 @@ pub(crate) fn filter_in(
     requires { ⌜ Sizes states values (now targets) (now costs) (now masks) (now limits) (now work) × (start .0 < states) × (spent ≤ top) × (length (now kept) ≡ length (now masks)) × (length (now to) ≡ tableSize) × (length (now fee) ≡ tableSize) × (length (now next) ≡ 256) × (length (now front) ≡ mostStates) × (length (now onward) ≡ 256) × (length (now hints) ≡ mostValues) ⌝ }
     ensures { λ r. ⌜ Filters (rulesOf states values (now (targets .entry)) (now (costs .entry)) accepting) (start .0) spent (places (now (masks .entry)) (now (limits .entry))) (now (work .entry)) (now (work .exit)) (now (kept .exit)) r ⌝ }
 {
-    turn::turn(states, values, targets, costs, to, fee);
-    rows::blank(BYTES, 0, next);
-    backward::fill_rooms(
+    backward::prepare(
         states,
         values,
-        to,
-        fee,
+        targets,
+        costs,
         accepting,
         masks,
         limits,
+        to,
+        fee,
         next,
         work,
     );
@@ -143,9 +139,19 @@ pub(crate) fn first_in(
     ensures { λ r. ⌜ Finds (rosters (rulesOf states values (now (targets .entry)) (now (costs .entry)) accepting) (start .0) spent (places (now (masks .entry)) (now (limits .entry)))) place (value .0) (now (roster .entry)) (now (roster .exit)) (now (work .entry)) (now (work .exit)) r ⌝ }
 {
     alone::narrow(masks, place, value, own);
-    turn::turn(states, values, targets, costs, to, fee);
-    rows::blank(BYTES, 0, next);
-    backward::fill_rooms(states, values, to, fee, accepting, own, limits, next, work);
+    backward::prepare(
+        states,
+        values,
+        targets,
+        costs,
+        accepting,
+        own,
+        limits,
+        to,
+        fee,
+        next,
+        work,
+    );
     let found = walk::walk(
         states,
         values,

@@ -6,7 +6,7 @@ use Prim.Native.Nat.{ℕ, zero, suc, _+_, _*_, _-_, _≤_, _<_, min}
 use native.Mathlib.Numerals.{add-one}
 use native.Mathlib.Omega.{arith}
 use native.Mathlib.Decide.{ℕ-discrete, decLt}
-use lib.ListN.{length, getD, take, drop}
+use lib.ListN.{length, getD, take, drop, List·getD-eq-default}
 use borrow.Author.Tests.{lt-ltb, le-ltb}
 use borrow.Rule.Slice.PartMut.{putMid, midOf}
 use Rattle.kinds.specs.Bits.{bit}
@@ -35,6 +35,14 @@ laid-row g n i work ys was next now h l e r f = (record { row = row; behind = be
 pub copied-row : (i : ℕ) (work : List ℕ) (n : ℕ) (next now : List ℕ) → n ≤ 64
     → Filled (λ k. getD (take ((i + 1) * 64 + 64 - (i + 1) * 64) (drop ((i + 1) * 64) work)) k 0) n next now → (u : ℕ) → u < n → getD now u 0 ≡ getD work (suc i * 64 + u) 0
 copied-row i work n next now h l u k = l .done u k ∙ (row-part work (i + 1) ((i + 1) * 64 + 64 - (i + 1) * 64) u (omega arith) ∙ rw add-one)
+
+-- no room at any target byte, before the last layer is loaded
+pub blank-loaded : {was next : List ℕ} (n : ℕ) → length next ≡ 256 → Filled (λ k. 0) 256 was next → Loaded (λ t. 0) n next
+blank-loaded {was} {next} n e f = record { done = λ k h. at k (decLt k 256); none = λ k h. at k (decLt k 256) }
+  where
+    at : (k : ℕ) → Dec (k < 256) → getD next k 0 ≡ 0
+    at k (yes h) = f .done k h
+    at k (no h) = List·getD-eq-default next 0 {n = k} (omega arith)
 
 -- places one by one
 pub drop-places : (ms ls : List ℕ) (i : ℕ) → length ls ≡ length ms → i < length ms

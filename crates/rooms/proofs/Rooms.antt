@@ -123,6 +123,27 @@ module _ (r : Rules) (n : Net) (same : Same (r .arcs) (r .arcs .values) n) where
       = rw (same .to q v hq (b .0), same .fee q v hq (b .0)) (omega (arith, g .within)) in
       rw (lt-ltb _ _ hq) (omega (arith, best-most n (λ t. capped (p .limit) (room (framed n r) ps t)) q (in-choice (r .arcs .values) (p .mask) v (b .0) (g .chosen))))
 
+-- two nets that have the arcs of one rule set leave the same rooms
+module _ (r : Rules) (m n : Net) (s : Same (r .arcs) (r .arcs .values) m) (t : Same (r .arcs) (r .arcs .values) n) where
+  best-same : (next : ℕ → ℕ) (q : ℕ) → q < r .arcs .states → (vs : List ℕ) → ((v : ℕ) → In v vs → v < r .arcs .values) → best m next q vs ≡ best n next q vs
+  unfolding best
+  best-same next q h [] b = refl
+  best-same next q h (v ∷ vs) b =
+      let k : v < r .arcs .values = b v (head refl) in
+      rw (s .to q v h k, s .fee q v h k, t .to q v h k, t .fee q v h k, best-same next q h vs (λ u i. b u (tail i)))
+
+  pub room-same : (ps : List Place) (q : ℕ) → room (framed m r) ps q ≡ room (framed n r) ps q
+  unfolding room
+  room-same [] q = refl
+  room-same (p ∷ ps) q = go (ltb q (r .arcs .states)) refl (λ i t. capped (p .limit) (room-same ps t i))
+    where
+      go : (b : Bool) → ltb q (r .arcs .states) ≡ b
+          → _≡_ {A = ℕ → ℕ} (λ t. capped (p .limit) (room (framed m r) ps t)) (λ t. capped (p .limit) (room (framed n r) ps t))
+          → cond b (best m (λ t. capped (p .limit) (room (framed m r) ps t)) q (choices (r .arcs .values) (p .mask))) 0
+          ≡ cond b (best n (λ t. capped (p .limit) (room (framed n r) ps t)) q (choices (r .arcs .values) (p .mask))) 0
+      go true e rec = rw rec (best-same (λ t. capped (p .limit) (room (framed n r) ps t)) q (ltb-true _ _ e) (choices (r .arcs .values) (p .mask)) (λ v i. choice-in (r .arcs .values) (p .mask) i .0))
+      go false e rec = refl
+
 -- with less spent, what was allowed is allowed, and costs no more
 pub total-lower : (a : Arcs) (q c d : ℕ) (w : List ℕ) → c ≤ d → total a q c w ≤ total a q d w
 total-lower a q c d [] h = h

@@ -6,8 +6,9 @@ use native.Mathlib.Omega.{arith}
 use native.Mathlib.Decide.{ℕ-discrete}
 use lib.ListN.{length, getD}
 use borrow.Rule.Slice.PartMut.{putMid, midOf, mid-len}
+use Rattle.meaning.specs.Bounds.{tableSize}
 use Rattle.meaning.specs.Meaning.{Arcs, target, cost}
-use Rattle.rooms.specs.Tables.{Filled, turned, Same}
+use Rattle.rooms.specs.Tables.{Filled, turned, Same, Sizes}
 use Rattle.rooms.proofs.Filling.{put-before, put-in}
 
 -- one table, of targets or of costs: f is what an arc of it says
@@ -39,3 +40,16 @@ turned-more a v ts cs {ys} {zs} {was} {were} h lt lc ly lz s x y = record {
 
 pub turned-end : {a : Arcs} {v vs : ℕ} (ts cs : List ℕ) → v ≤ vs → vs ≤ v → Same a v (turned ts cs) → Same a vs (turned ts cs)
 turned-end {a} {v} {vs} ts cs h k s = let e : v ≡ vs = omega arith in rw e at s
+
+-- the sizes, with the tables turned
+pub ready-turned : {qs vs : ℕ} {t c ms ls work ts cs : List ℕ} → Sizes qs vs t c ms ls work → length ts ≡ tableSize → length cs ≡ tableSize → Sizes qs vs ts cs ms ls work
+ready-turned r h k = record {
+  few-states = r .few-states;
+  few-values = r .few-values;
+  all-targets = h;
+  all-costs = k;
+  some-places = r .some-places;
+  few-places = r .few-places;
+  all-limits = r .all-limits;
+  all-work = r .all-work;
+}

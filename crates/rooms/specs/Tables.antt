@@ -6,7 +6,7 @@ use Prim.Native.Nat.{ℕ, zero, suc, _+_, _*_, _-_, _≤_, _<_, min, max}
 use lib.Dec.{ltb}
 use lib.ListN.{length, getD, drop}
 use Rattle.kinds.specs.Bits.{bit}
-use Rattle.meaning.specs.Meaning.{Arcs, target, cost, Place, places}
+use Rattle.meaning.specs.Meaning.{Arcs, arcsOf, target, cost, Place, places}
 use Rattle.meaning.specs.Lists.{those}
 use Rattle.meaning.specs.Bounds.{mostPlaces, mostStates, mostValues, tableSize, workSize, top}
 
@@ -95,3 +95,9 @@ pub record Sizes (qs vs : ℕ) (ts cs ms ls work : List ℕ) : Type 0 where
   pub few-places : length ms ≤ mostPlaces
   pub all-limits : length ls ≡ length ms
   pub all-work : length work ≡ workSize (length ms)
+
+-- what the whole backward pass leaves: the arcs of the rule set turned, the rooms of all layers, and those of layer 0 by themselves
+pub record Prepared (qs vs : ℕ) (ts cs : List ℕ) (accepting : ℕ) (ms ls to fee next work : List ℕ) : Type 0 where
+  pub arcs : Same (arcsOf qs vs ts cs) vs (turned to fee)
+  pub rooms : Layers (frame (turned to fee) qs vs accepting) ms ls 0 work
+  pub first : Loaded (layer (frame (turned to fee) qs vs accepting) ms ls 0) qs next

@@ -5,13 +5,17 @@ ghost use Prim.Native.Nat.{suc, _+_, _*_, _-_, _≤_, _<_, min, max};
 ghost use lib.ListN.{length, getD};
 ghost use Rattle.kinds.specs.Bits.{bit};
 ghost use Rattle.meaning.specs.Bounds.{mostPlaces, mostStates, mostValues, tableSize, top};
-ghost use Rattle.rooms.specs.Tables.{Filled, turned, choices, best, before, frame, layer, Layers, Laid, Loaded, Sizes};
+ghost use Rattle.rooms.specs.Tables.{Filled, turned, choices, best, before, frame, layer, Layers, Laid, Loaded, Sizes, Prepared};
 use crate::rows;
+use crate::turn;
 use kinds::Mask;
 use kinds::Value;
 use rules::bounds;
 use rules::bounds::TOP;
 use rules::numbers::lesser;
+
+// As many numbers as a target byte can name.
+pub const BYTES: usize = 256;
 
 // The room after the last place.
 pub(crate) fn ending(accepting: u64, cap: u32, q: usize) -> u32
@@ -145,7 +149,7 @@ pub(crate) fn fill_last(
 }
 
 // The rows of all layers, the last first.
-pub fn fill_rooms(
+pub(crate) fn fill_rooms(
     states: usize,
     values: usize,
     targets: &[u8],
@@ -176,4 +180,36 @@ pub fn fill_rooms(
             work,
         );
     }
+}
+
+// The whole backward pass: the tables turned, the rooms of all layers, and those of layer 0 loaded by themselves.
+pub fn prepare(
+    states: usize,
+    values: usize,
+    targets: &[u8],
+    costs: &[u16],
+    accepting: u64,
+    masks: &[u16],
+    limits: &[u32],
+    to: &mut [u8],
+    fee: &mut [u16],
+    next: &mut [u32],
+    work: &mut [u32],
+)
+    requires { ⌜ Sizes states values (now targets) (now costs) (now masks) (now limits) (now work) × (length (now to) ≡ tableSize) × (length (now fee) ≡ tableSize) × (length (now next) ≡ 256) ⌝ }
+    ensures { λ _. ⌜ Prepared states values (now (targets .entry)) (now (costs .entry)) accepting (now (masks .entry)) (now (limits .entry)) (now (to .exit)) (now (fee .exit)) (now (next .exit)) (now (work .exit)) ⌝ }
+{
+    turn::turn(states, values, targets, costs, to, fee);
+    rows::blank(BYTES, 0, next);
+    fill_rooms(
+        states,
+        values,
+        to,
+        fee,
+        accepting,
+        masks,
+        limits,
+        next,
+        work,
+    );
 }

@@ -31,7 +31,7 @@ pub(crate) fn turn_value(
 }
 
 // The arcs on every value.
-pub fn turn(
+pub(crate) fn turn(
     states: usize,
     values: usize,
     targets: &[u8],
