@@ -1,98 +1,80 @@
 -- The returns of `ready` and `renew`. Assumes nothing.
 use mathlib.Core.Path.{_≡_, refl, sym, ap, _∙_}
-use mathlib.Core.Bool.{Bool, true, false}
-use mathlib.Core.List.{List, [], _∷_}
-use Prim.Native.Nat.{ℕ, _-_, _≤_}
+use mathlib.Core.Bool.{Bool, true, false, cond, _&&_}
+use mathlib.Core.List.{List, [], _∷_, _++_}
+use Prim.Native.Nat.{ℕ}
 use native.Mathlib.Omega.{arith}
 use lib.ListN.{length, take, length-drop}
-use Rattle.meaning.specs.Bounds.{mostPlaces, mostValues}
 use Rattle.rules.specs.Checks.{Handed}
 use Rattle.rules.specs.Answers.{check, decided, workAfter, zeros}
 use Rattle.rules.proofs.Checks.{size-of, sizes-of}
-use Rattle.ledger.specs.Readiness.{readiness, readyOf, Left, left, lentChecks, renewedOf, renewedBy, Lent}
-use Rattle.ledger.specs.Layout.{shownSize, heldSize, memorySize}
-use Rattle.ledger.specs.Memory.{heldIn, heldRight, wellFormed, Held}
-use Rattle.ledger.proofs.Numbers.{tail-is}
+use Rattle.ledger.specs.Readiness.{readiness, readyOf, Left, left, lentChecks, renewChecks, renewedOf, renewedBy, Lent}
+use Rattle.ledger.specs.Layout.{shownSize}
+use Rattle.ledger.specs.Memory.{heldIn, heldRight, same, shownOf, verdictHeld, wellFormed, Held}
 use Rattle.ledger.proofs.Checked.{Passed, through, refused-on, passed-on, lent-of, memory-of}
 use Rattle.machine.specs.Inner.{Compared, lentOf}
 
-module _ (h : Handed) (m w w' : List ℕ) (a : ℕ) (e : readiness a w' ≡ lentOf h (length m) w) where
-  pub ready-lent : (a ≡ 0 → ⊥) → readiness a w' ≡ readyOf h m w
-  unfolding lentOf readyOf
-  ready-lent z = refused-on w w readiness _ _ (lentChecks h (length m) (length w)) (readiness a w') e z
+-- two checks of one number are one
+split : {A : Type 0} (b d : Bool) (x y : A) → cond (b && d) x y ≡ cond b (cond d x y) y
+split true d x y = refl
+split false d x y = refl
 
-  pub renew-lent : (a ≡ 0 → ⊥) → left a m w' ≡ renewedOf h m w
+module _ (h : Handed) (m w w' : List ℕ) (a : ℕ) (e : readiness a w' ≡ lentOf h m w) where
+  abbrev right : Bool
+  right = heldRight (h .places) (h .rules .arcs .states) (h .rules .arcs .values) (h .start) (heldIn (h .places) m)
+
+  abbrev shown : Bool
+  shown = same (take (shownSize (h .places)) m) (shownOf (verdictHeld h (heldIn (h .places) m)))
+
+  ready-by : readyOf h m w ≡ decided (renewChecks h m w ++ (check 12 shown ∷ [])) (λ n. readiness n (workAfter n w)) (readiness 0 (zeros w))
+  unfolding readyOf decided wellFormed
+  ready-by = rw (split right shown _ _)
+
+  pub ready-refused : (a ≡ 0 → ⊥) → readiness a w' ≡ readyOf h m w
+  unfolding lentOf
+  ready-refused z = refused-on w w readiness _ _ (renewChecks h m w) (readiness a w') e z ∙ sym ready-by
+
+  pub renew-refused : (a ≡ 0 → ⊥) → left a m w' ≡ renewedOf h m w
   unfolding lentOf renewedOf
-  renew-lent z = refused-on w w (λ n u. left n m u) _ _ (lentChecks h (length m) (length w)) (readiness a w') e z
+  renew-refused z = refused-on w w (λ n u. left n m u) [] _ (renewChecks h m w) (readiness a w') e z
 
   module _ (z : a ≡ 0) where
-    both-of : Passed (lentChecks h (length m) (length w)) × (w' ≡ w)
+    passed : Passed (renewChecks h m w) × (w' ≡ w)
     unfolding lentOf
-    both-of = passed-on w w (lentChecks h (length m) (length w)) (readiness a w') refl e z
+    passed = passed-on w w (renewChecks h m w) (readiness a w') refl e z
 
-    pub passed : Passed (lentChecks h (length m) (length w))
-    passed = both-of .0
+    lent-passed : Passed (lentChecks h (length m) (length w))
+    lent-passed = let p = passed .0 in (p .0, (p .1 .0, (p .1 .1 .0, tt)))
 
-    pub lent-now : Lent h w'
-    lent-now = rw (both-of .1) (lent-of h (length m) w passed)
+    pub checked : Lent h w' × Held (h .places) (h .rules .arcs .states) (h .rules .arcs .values) (h .start) (heldIn (h .places) m)
+    checked =
+        let s = sizes-of _ _ _ _ (lent-passed .0) in (
+          rw (passed .1) (lent-of h (length m) w lent-passed),
+          record {
+            some-places = s .some-places;
+            few-places = s .few-places;
+            few-values = size-of _ _ _ (s .size) .few-values;
+            long = simp length-drop (omega (arith, memory-of h (length m) w lent-passed));
+            right = passed .0 .1 .1 .1 .0;
+          },
+        )
 
-    pub bounds : (1 ≤ h .places) × (h .places ≤ mostPlaces) × (h .rules .arcs .values ≤ mostValues) × (length m ≡ memorySize (h .places))
-    bounds =
-        let s = sizes-of _ _ _ _ (lent-of h (length m) w passed .sized) in
-        (s .some-places, s .few-places, size-of _ _ _ (s .size) .few-values, memory-of h (length m) w passed)
+    module _ (r : Bool) (u : List ℕ) (j : Compared h m w' r u) where
+      ready-tail : readyOf h m w ≡ decided (check 12 r ∷ []) (λ n. readiness n (workAfter n w)) (readiness 0 (zeros w))
+      ready-tail =
+          ready-by ∙ through (renewChecks h m w) (check 12 shown ∷ []) _ _ (passed .0)
+          ∙ ap (λ (x : Bool). decided (check 12 x ∷ []) (λ n. readiness n (workAfter n w)) (readiness 0 (zeros w))) (sym (j .verdict))
 
-    pub part-long : length (take (length m - shownSize (h .places)) (heldIn (h .places) m)) ≡ heldSize (h .places)
-    part-long = ap length (tail-is (shownSize (h .places)) m) ∙ simp length-drop (let b = bounds .3 in omega arith)
-
-    work-now : (u : List ℕ) → u ≡ zeros w' → u ≡ zeros w
-    work-now u g = g ∙ ap (λ (x : List ℕ). zeros x) (both-of .1)
-
-    ready-tail : readyOf h m w ≡ decided (check 12 (wellFormed h m) ∷ []) (λ n. readiness n (workAfter n w)) (readiness 0 (zeros w))
-    unfolding readyOf
-    ready-tail = through (lentChecks h (length m) (length w)) (check 12 (wellFormed h m) ∷ []) _ _ passed
-
-    abbrev right : List ℕ → Bool
-    right l = heldRight (h .places) (h .rules .arcs .states) (h .rules .arcs .values) (h .start) l
-
-    renew-tail : renewedOf h m w ≡ decided (check 12 (right (heldIn (h .places) m)) ∷ []) (λ n. left n m (workAfter n w)) (renewedBy h (heldIn (h .places) m) w)
-    unfolding renewedOf
-    renew-tail = through (lentChecks h (length m) (length w)) (check 12 (right (heldIn (h .places) m)) ∷ []) _ _ passed
-
-    right-is : (b r : Bool) → b ≡ right (take (length m - shownSize (h .places)) (heldIn (h .places) m)) → b ≡ r → right (heldIn (h .places) m) ≡ r
-    right-is b r f g = sym (ap right (tail-is (shownSize (h .places)) m)) ∙ sym f ∙ g
-
-    module _ (b : Bool) (f : b ≡ right (take (length m - shownSize (h .places)) (heldIn (h .places) m))) where
-      pub ready-held : b ≡ false → (u : List ℕ) → u ≡ zeros w' → readiness 12 u ≡ readyOf h m w
-      unfolding wellFormed decided
-      ready-held g u k =
-          rw (ready-tail, right-is b false f g) (ap (readiness 12) (work-now u k))
-
-      pub renew-held : b ≡ false → (u : List ℕ) → u ≡ zeros w' → left 12 m u ≡ renewedOf h m w
+      pub ready-shown : r ≡ false → readiness 12 u ≡ readyOf h m w
       unfolding decided
-      renew-held g u k =
-          rw (renew-tail, right-is b false f g) (ap (left 12 m) (work-now u k))
+      ready-shown k = rw (ready-tail, k, j .work-after, passed .1)
 
-      module _ (g : b ≡ true) where
-        pub held-now : Held (h .places) (h .rules .arcs .states) (h .rules .arcs .values) (h .start) (heldIn (h .places) m)
-        held-now = let d = bounds in record {
-          some-places = d .0;
-          few-places = d .1;
-          few-values = d .2;
-          long = simp length-drop (let k = d .3 in omega arith);
-          right = right-is b true f g;
-        }
+      pub ready-done : r ≡ true → readiness 0 u ≡ readyOf h m w
+      unfolding decided
+      ready-done k = rw (ready-tail, k, j .work-after, passed .1)
 
-        pub ready-shown : (r : Bool) (u : List ℕ) → Compared h m w' r u → r ≡ false → readiness 12 u ≡ readyOf h m w
-        unfolding wellFormed decided
-        ready-shown r u j k =
-            rw (ready-tail, right-is b true f g, sym (j .verdict) ∙ k) (ap (readiness 12) (work-now u (j .work-after)))
-
-        pub ready-done : (r : Bool) (u : List ℕ) → Compared h m w' r u → r ≡ true → readiness 0 u ≡ readyOf h m w
-        unfolding wellFormed decided
-        ready-done r u j k =
-            rw (ready-tail, right-is b true f g, sym (j .verdict) ∙ k) (ap (readiness 0) (work-now u (j .work-after)))
-
-        pub renew-done : (x : Left) → x ≡ renewedBy h (heldIn (h .places) m) w' → x ≡ renewedOf h m w
-        unfolding decided
-        renew-done x k =
-            rw (renew-tail, right-is b true f g) (k ∙ ap (renewedBy h (heldIn (h .places) m)) (both-of .1))
+    pub renew-done : (x : Left) → x ≡ renewedBy h (heldIn (h .places) m) w' → x ≡ renewedOf h m w
+    unfolding renewedOf decided
+    renew-done x k =
+        k ∙ ap (renewedBy h (heldIn (h .places) m)) (passed .1)
+        ∙ sym (through (renewChecks h m w) [] (λ n. left n m (workAfter n w)) (renewedBy h (heldIn (h .places) m) w) (passed .0))

@@ -2,11 +2,11 @@
 use mathlib.Core.Path.{_≡_, refl, sym, ap, ap₂, _∙_}
 use mathlib.Core.Bool.{Bool, true, _&&_}
 use mathlib.Core.List.{List, [], _∷_, _++_}
-use Prim.Native.Nat.{ℕ, zero, suc, _+_, _-_, _^_, _≤_}
+use Prim.Native.Nat.{ℕ, zero, suc, _+_, _^_, _≤_}
 use native.Mathlib.Omega.{arith}
 use lib.Bits.{bitAnd, and-le-l}
 use lib.Dec.{ltb}
-use lib.ListN.{length, getD, drop, take, replicate, length-drop, length-replicate}
+use lib.ListN.{length, getD, drop, take, replicate, length-drop, length-take, length-replicate}
 use lib.Seq.{length-take-le}
 use lib.Pow.{pow-mono}
 use borrow.Author.Tests.{eq-eqb, lt-ltb, ltb-true}
@@ -16,14 +16,14 @@ use Rattle.meaning.specs.Bounds.{mostPlaces}
 use Rattle.rules.specs.Checks.{Handed, masksRight}
 use Rattle.rules.specs.Answers.{decided, zeros}
 use Rattle.rules.proofs.Checks.{both}
-use Rattle.ledger.specs.Sessions.{Opening, opening, standing, placesBy, verdictBy}
+use Rattle.ledger.specs.Sessions.{standing, placesBy, verdictBy}
 use Rattle.ledger.specs.Readiness.{left, renewedBy, Lent}
-use Rattle.ledger.specs.Layout.{openingPlace, rowsSize, headSize, heldSize, shownSize, mostDecisions, mostMarks}
-use Rattle.ledger.specs.Memory.{allBelow, countOf, rowsOf, entriesAt, entriesOf, openingAt, openingOf, heldIn, same, shownOf, verdictHeld, Held}
-use Rattle.ledger.proofs.Numbers.{and-both, below-more, masks-below, tail-is}
+use Rattle.ledger.specs.Layout.{openingPlace, shownSize, mostDecisions, mostMarks}
+use Rattle.ledger.specs.Memory.{rowsOf, entriesOf, openingAt, openingOf, heldIn, same, shownOf, verdictHeld, Held}
+use Rattle.ledger.proofs.Numbers.{and-both, below-more, masks-below}
 use Rattle.ledger.proofs.Image.{held-head, held-room, held-masks, room-long, room-rows}
 use Rattle.ledger.proofs.Head.{head-all}
-use Rattle.machine.specs.Inner.{Compared, RowsSafe}
+use Rattle.machine.specs.Inner.{Compared, Replayable}
 use Rattle.machine.proofs.Ranges.{rows-safe}
 use Rattle.filter.specs.Filter.{Left, left as filtered, lengthsRight, filterDone, filterOf}
 
@@ -55,28 +55,23 @@ module _ (v : ℕ) where
   decides-inside ps (Limit i l ∷ ds) e =
       decides-inside (decide ps (Limit i l)) ds (change-inside (λ p. place (p .mask) (_)) (λ p h. h) i ps e)
 
--- reading what is held
+-- what is held can be replayed
 module _ (n q v start : ℕ) (l : List ℕ) (h : Held n q v start l) where
-  pub opening-long : length (take (length l - openingPlace) (drop openingPlace l)) ≡ n + n
-  opening-long = ap length (tail-is openingPlace l) ∙ simp length-drop (omega (arith, h .long))
+  few : (getD l 4 0 ≤ mostDecisions) × (getD l 5 0 ≤ mostMarks)
+  few = let g = head-all n q v start l (held-head n q v start l (h .long) (h .right)) in (g .0 .d-high, g .0 .m-high)
 
-  pub opening-below : allBelow 65536 (take n (take (length l - openingPlace) (drop openingPlace l))) ≡ true
-  opening-below =
-      ap (λ (t : List ℕ). allBelow 65536 (take n t)) (tail-is openingPlace l)
-      ∙ below-more (2 ^ v) 65536 (take n (drop openingPlace l)) (pow-mono (h .few-values))
-      (sym (masks-below v (take n (drop openingPlace l))) ∙ held-masks n q v start l (h .long) (h .right))
-
-  pub held-few : (getD l 4 0 ≤ mostDecisions) × (getD l 5 0 ≤ mostMarks)
-  held-few = let g = head-all n q v start l (held-head n q v start l (h .long) (h .right)) in (g .0 .d-high, g .0 .m-high)
-
-  pub rows-ready : (k a b : ℕ) → k ≡ getD l 4 0 + getD l 5 0 → a ≡ n → b ≡ n → RowsSafe k (take rowsSize (drop headSize l)) a b
+  pub replayable : Replayable n l
   unfolding rowsOf
-  rows-ready k a b e f g =
-      let w = held-few in
-      let r = rows-safe n v (getD l 4 0 + getD l 5 0) (rowsOf l) (h .few-values)
-      (room-rows n v (getD l 4 0) (getD l 5 0) (rowsOf l) (room-long n q v start l (h .long) (h .right)) (omega (arith, w .0, w .1))
-      (held-room n q v start l (h .long) (h .right))) in
-      rw (e, f, g) r
+  replayable =
+      let w = few in record {
+        long = h .long;
+        narrow = below-more (2 ^ v) 65536 (take n (drop openingPlace l)) (pow-mono (h .few-values))
+            (sym (masks-below v (take n (drop openingPlace l))) ∙ held-masks n q v start l (h .long) (h .right));
+        few-entries = omega (arith, w .0, w .1);
+        rows = rows-safe n v (getD l 4 0 + getD l 5 0) (rowsOf l) (h .few-values)
+            (room-rows n v (getD l 4 0) (getD l 5 0) (rowsOf l) (room-long n q v start l (h .long) (h .right)) (omega (arith, w .0, w .1))
+            (held-room n q v start l (h .long) (h .right)));
+      }
 
 -- the filter passes all checks
 module _ (h : Handed) (ms ls kept work : List ℕ) (lent : Lent h work) where
@@ -86,70 +81,50 @@ module _ (h : Handed) (ms ls kept work : List ℕ) (lent : Lent h work) where
   filter-tells a b c d =
       rw (lent .sized, lent .tabled, eq-eqb _ _ a, eq-eqb _ _ b, eq-eqb _ _ c, eq-eqb _ _ (lent .worked), lent .ruled, d)
 
-module _ (h : Handed) (l ms₀ ls₀ ms ls kept work : List ℕ) (k : ℕ) (lent : Lent h work)
+module _ (h : Handed) (l ms ls kept work : List ℕ) (lent : Lent h work)
     (held : Held (h .places) (h .rules .arcs .states) (h .rules .arcs .values) (h .start) l)
-    (opened : opening ms₀ ls₀ ≡ openingAt (h .places) (take (length l - openingPlace) (drop openingPlace l)))
-    (replayed : places ms ls ≡ decides (places ms₀ ls₀) (standing (entriesAt k (take rowsSize (drop headSize l)))))
-    (counted : k ≡ getD l 4 0 + getD l 5 0) where
-  opened-is : opening ms₀ ls₀ ≡ openingOf (h .places) l
-  unfolding openingOf
-  opened-is = opened ∙ ap (openingAt (h .places)) (tail-is openingPlace l)
-
-  masks-inside : length ms₀ ≡ length ls₀ → length ms ≡ length ls → masksRight (h .rules .arcs .values) ms ≡ true
-  unfolding openingOf openingAt
-  masks-inside a b =
+    (come : places ms ls ≡ placesBy (openingOf (h .places) l) (standing (entriesOf l))) where
+  masks-inside : length ms ≡ length ls → masksRight (h .rules .arcs .values) ms ≡ true
+  unfolding placesBy openingOf openingAt
+  masks-inside e =
       let v = h .rules .arcs .values in
-      sym (places-inside v ms ls b) ∙ ap (all (inside v)) replayed
-      ∙ decides-inside v (places ms₀ ls₀) _ (places-inside v ms₀ ls₀ a ∙ ap (λ (o : Opening). masksRight v (o .masks)) opened-is
+      let s = drop openingPlace l in
+      sym (places-inside v ms ls e) ∙ ap (all (inside v)) come
+      ∙ decides-inside v (places (take (h .places) s) (drop (h .places) s)) _
+      (places-inside v (take (h .places) s) (drop (h .places) s) (simp (length-take, length-drop) (omega (arith, held .long)))
       ∙ held-masks (h .places) (h .rules .arcs .states) v (h .start) l (held .long) (held .right))
 
-  places-are : places ms ls ≡ placesBy (openingOf (h .places) l) (standing (entriesOf l))
-  unfolding placesBy entriesOf countOf rowsOf
-  places-are =
-      replayed ∙ ap₂ (λ (o : Opening) (j : ℕ). decides (places (o .masks) (o .limits)) (standing (entriesAt j (take rowsSize (drop headSize l))))) opened-is counted
-
-  pub refreshed : length ms₀ ≡ h .places → length ls₀ ≡ h .places → length ms ≡ h .places → length ls ≡ h .places → length kept ≡ h .places
+  pub refreshed : length ms ≡ h .places → length ls ≡ h .places → length kept ≡ h .places
       → (x : Left) → x ≡ filterOf h ms ls kept work → x ≡ filterDone (verdictHeld h l) work
   unfolding verdictHeld verdictBy
-  refreshed a b c d e x f =
-      f ∙ filter-tells h ms ls kept work lent c d e (masks-inside (a ∙ sym b) (c ∙ sym d))
-      ∙ ap (λ (ps : List Place). filterDone (verdictOf (h .rules) (h .start) 0 ps) work) places-are
+  refreshed a b c x f =
+      f ∙ filter-tells h ms ls kept work lent a b c (masks-inside (a ∙ sym b))
+      ∙ ap (λ (ps : List Place). filterDone (verdictOf (h .rules) (h .start) 0 ps) work) come
 
 -- in the memory around what is held
-module _ (n q v start : ℕ) (m : List ℕ) (h : Held n q v start (heldIn n m)) where
-  pub memory-long : length m ≡ shownSize n + heldSize n
-  memory-long = omega (arith, length-drop (shownSize n) m, h .long)
-
-  pub part-held : Held n q v start (take (length m - shownSize n) (heldIn n m))
-  part-held = rw (tail-is (shownSize n) m) h
-
-  pub front-long : shownSize n ≡ length (take (shownSize n) m)
-  front-long = sym (length-take-le (shownSize n) m (let w = memory-long in omega arith))
-
-module _ (h : Handed) (m w w' ks : List ℕ) (a a' c : ℕ) (number : a' ≡ a)
-    (verdict-is : filtered a c ks w' ≡ filterDone (verdictHeld h (take (length m - shownSize (h .places)) (heldIn (h .places) m))) w) where
+module _ (h : Handed) (m w w' ks : List ℕ) (a c : ℕ) (long : length ks ≡ h .places)
+    (verdict-is : filtered a c ks w' ≡ filterDone (verdictHeld h (heldIn (h .places) m)) w) where
   abbrev t : Verdict
   t = verdictHeld h (heldIn (h .places) m)
 
-  whole : filtered a c ks w' ≡ filterDone t w
-  whole = verdict-is ∙ ap (λ (l : List ℕ). filterDone (verdictHeld h l) w) (tail-is (shownSize (h .places)) m)
-
-  shown-is : verdict a' ks c ≡ t
+  shown-is : verdict a ks c ≡ t
   unfolding filterDone
-  shown-is = ap (λ (x : ℕ). verdict x ks c) number ∙ ap (λ (x : Left). verdict (x .answer) (x .kept) (x .least)) whole
+  shown-is = ap (λ (x : Left). verdict (x .answer) (x .kept) (x .least)) verdict-is
 
   work-is : w' ≡ zeros w
   unfolding filterDone
-  work-is = ap (λ (x : Left). x .work) whole
+  work-is = ap (λ (x : Left). x .work) verdict-is
 
-  pub judged : (r : Bool) → r ≡ same (take (shownSize (h .places)) m) (shownOf (verdict a' ks c)) → Compared h m w r w'
-  judged r e = record { verdict = e ∙ ap (λ (x : Verdict). same (take (shownSize (h .places)) m) (shownOf x)) shown-is; work-after = work-is }
+  pub judged : (r : Bool) → r ≡ same (take (shownSize (length ks)) m) (shownOf (verdict a ks c)) → Compared h m w r w'
+  judged r e = record {
+    verdict = e ∙ ap₂ (λ (n : ℕ) (x : Verdict). same (take (shownSize n) m) (shownOf x)) long shown-is;
+    work-after = work-is;
+  }
 
-  pub renews : (y : List ℕ) → y ≡ shownOf (verdict a' ks c) → left a (y ++ heldIn (h .places) m) w' ≡ renewedBy h (heldIn (h .places) m) w
+  pub renews : (y : List ℕ) → y ≡ shownOf (verdict a ks c) ++ drop (shownSize (length ks)) m → left a y w' ≡ renewedBy h (heldIn (h .places) m) w
   unfolding renewedBy
   renews y e =
-      ap (λ (x : List ℕ). left a (x ++ heldIn (h .places) m) w') e
-      ∙ ap₂ (λ (x : ℕ) (u : List ℕ). left x (shownOf (verdict a' ks c) ++ heldIn (h .places) m) u) (sym number) work-is
+      ap₂ (λ (x u : List ℕ). left a x u) (e ∙ ap (λ (n : ℕ). shownOf (verdict a ks c) ++ drop (shownSize n) m) long) work-is
       ∙ ap (λ (x : Verdict). left (x .answered) (shownOf x ++ heldIn (h .places) m) (zeros w)) shown-is
 
 -- the front of the local arrays

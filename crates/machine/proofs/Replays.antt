@@ -1,17 +1,20 @@
 -- The replay of the entries upon lent masks and limits, one law for each step of the code. Assumes nothing.
 use mathlib.Core.Path.{_≡_, refl, sym, ap, _∙_}
+use mathlib.Core.Bool.{true}
 use mathlib.Core.List.{List, [], _∷_, _++_, append-nil}
-use Prim.Native.Nat.{ℕ, _+_, _*_, _<_, min}
+use Prim.Native.Nat.{ℕ, _+_, _*_, _-_, _≤_, _<_, min}
+use native.Mathlib.Omega.{arith}
 use native.Mathlib.Numerals.{add-one}
 use lib.Bits.{bitAnd}
-use lib.ListN.{getD, set}
+use lib.ListN.{length, getD, set, take, drop, length-drop}
 use borrow.Author.Tests.{eq-eqb, ne-eqb}
 use Rattle.meaning.specs.Meaning.{Place, places, decides}
 use Rattle.meaning.proofs.Decisions.{decides-append, keep-stored, limit-stored}
-use Rattle.ledger.specs.Sessions.{Entry, decision, mark, standing}
-use Rattle.ledger.specs.Layout.{keepKind, limitKind, rowSize}
-use Rattle.ledger.specs.Memory.{entryOf, entryAt, entriesAt}
-use Rattle.machine.specs.Inner.{RowSafe, RowsSafe}
+use Rattle.ledger.specs.Sessions.{Entry, Opening, opening, decision, mark, standing, placesBy}
+use Rattle.ledger.specs.Layout.{keepKind, limitKind, rowSize, rowsSize, headSize, openingPlace, heldSize, shownSize}
+use Rattle.ledger.specs.Memory.{allBelow, countOf, rowsOf, entryOf, entryAt, entriesAt, entriesOf, openingAt, openingOf, heldIn}
+use Rattle.ledger.proofs.Numbers.{tail-is, part-long}
+use Rattle.machine.specs.Inner.{RowSafe, RowsSafe, Replayable}
 
 module _ (k p x : ℕ) (ms ls : List ℕ) where
   pub apply-keep : k ≡ keepKind → places (set ms p (bitAnd (getD ms p 0) x)) ls ≡ decides (places ms ls) (standing (entryOf k p x ∷ []))
@@ -53,3 +56,34 @@ module _ (s : List ℕ) (o : List Place) where
 pub safe-at : (k i a a' b b' : ℕ) (s : List ℕ) → RowsSafe k s a b → i < k → a' ≡ a → b' ≡ b
     → RowSafe (getD s (i * rowSize) 0) (getD s (i * rowSize + 1) 0) (getD s (i * rowSize + 2) 0) a' b'
 safe-at k i a a' b b' s r h f g = rw (f, g) (r .at i h)
+
+-- what is held, behind what is shown
+pub front-inside : (n : ℕ) (m : List ℕ) → length (heldIn n m) ≡ heldSize n → shownSize n ≤ length m
+front-inside n m e = omega (arith, length-drop (shownSize n) m)
+
+module _ (n : ℕ) (m : List ℕ) (r : Replayable n (heldIn n m)) where
+  abbrev part : List ℕ
+  part = take (length m - shownSize n) (heldIn n m)
+
+  pub part-ready : Replayable n part
+  part-ready = rw (tail-is (shownSize n) m) r
+
+  pub opening-long : length (take (length part - openingPlace) (drop openingPlace part)) ≡ n + n
+  opening-long = ap length (tail-is openingPlace part) ∙ simp length-drop (let k = part-ready .long in omega arith)
+
+  pub opening-below : allBelow 65536 (take n (take (length part - openingPlace) (drop openingPlace part))) ≡ true
+  opening-below = rw (tail-is openingPlace part) (part-ready .narrow)
+
+  pub rows-long : length (take rowsSize (drop headSize part)) ≡ rowsSize
+  rows-long = part-long rowsSize headSize part (let k = part-ready .long in omega arith)
+
+  pub rows-ready : (a b : ℕ) → a ≡ n → b ≡ n → RowsSafe (getD part 4 0 + getD part 5 0) (take rowsSize (drop headSize part)) a b
+  rows-ready a b e f = rw (e, f) (part-ready .rows)
+
+  pub come : (ms₀ ls₀ : List ℕ) (ps : List Place) → opening ms₀ ls₀ ≡ openingAt n (take (length part - openingPlace) (drop openingPlace part))
+      → ps ≡ decides (places ms₀ ls₀) (standing (entriesAt (getD part 4 0 + getD part 5 0) (take rowsSize (drop headSize part))))
+      → ps ≡ placesBy (openingOf n (heldIn n m)) (standing (entriesOf (heldIn n m)))
+  unfolding placesBy openingOf entriesOf countOf rowsOf
+  come ms₀ ls₀ ps e f =
+      f ∙ ap (λ (o : Opening). placesBy o (standing (entriesOf part))) (e ∙ ap (openingAt n) (tail-is openingPlace part))
+      ∙ ap (λ (l : List ℕ). placesBy (openingOf n l) (standing (entriesOf l))) (tail-is (shownSize n) m)

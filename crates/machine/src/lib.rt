@@ -15,7 +15,6 @@ mod shown;
 
 use rules::Answer;
 use rules::Size;
-use rules::numbers::clear;
 
 // Whether the memory is ready for a call: Done, or the refusal by 1, 2, 3 or 12.
 pub fn ready(
@@ -29,14 +28,9 @@ pub fn ready(
 ) -> Answer
     ensures { λ r. ⌜ readiness (numberOf r) (now (work .exit)) ≡ readyOf (handed places (size .states) (size .values) (size .start .0) (now (targets .entry)) (now (costs .entry)) accepting) (now (memory .entry)) (now (work .entry)) ⌝ }
 {
-    let answer = lent::lent_right(places, size, targets, costs, accepting, memory.len(), work);
+    let answer = lent::lent_right(places, size, targets, costs, accepting, memory, work);
     if answer.number() != 0 {
         return answer;
-    }
-    let front = places + layout::SHOWN;
-    if !held::held_right(places, size, &memory[front..]) {
-        clear(work);
-        return Answer::WrongMemory;
     }
     if !refresh::shown_right(places, size, targets, costs, accepting, memory, work) {
         return Answer::WrongMemory;
@@ -56,14 +50,9 @@ pub fn renew(
 ) -> Answer
     ensures { λ r. ⌜ left (numberOf r) (now (memory .exit)) (now (work .exit)) ≡ renewedOf (handed places (size .states) (size .values) (size .start .0) (now (targets .entry)) (now (costs .entry)) accepting) (now (memory .entry)) (now (work .entry)) ⌝ }
 {
-    let answer = lent::lent_right(places, size, targets, costs, accepting, memory.len(), work);
+    let answer = lent::lent_right(places, size, targets, costs, accepting, memory, work);
     if answer.number() != 0 {
         return answer;
-    }
-    let front = places + layout::SHOWN;
-    if !held::held_right(places, size, &memory[front..]) {
-        clear(work);
-        return Answer::WrongMemory;
     }
     refresh::show_held(places, size, targets, costs, accepting, memory, work)
 }

@@ -7,7 +7,6 @@ ghost use Rattle.ledger.specs.Readiness.{left, renewedBy, Lent};
 ghost use Rattle.ledger.specs.Memory.{heldIn, verdictHeld, Held};
 ghost use Rattle.machine.specs.Inner.{Compared};
 ghost use Rattle.filter.specs.Filter.{left as filtered, filterDone};
-use crate::layout;
 use crate::replay;
 use crate::shown;
 use filter::Filtered;
@@ -15,25 +14,25 @@ use rules::Answer;
 use rules::Size;
 use rules::bounds;
 
-// The filter of what is held; masks, limits and kept are lent to work in.
+// The filter of what is held.
 fn refresh(
     places: usize,
     size: Size,
     targets: &[u8],
     costs: &[u16],
     accepting: u64,
-    held: &[u32],
-    masks: &mut [u16],
-    limits: &mut [u32],
+    memory: &[u32],
     kept: &mut [u16],
     work: &mut [u32],
 ) -> Filtered
-    requires { ⌜ Lent (handed places (size .states) (size .values) (size .start .0) (now targets) (now costs) accepting) (now work) × Held places (size .states) (size .values) (size .start .0) (now held) × (length (now masks) ≡ places) × (length (now limits) ≡ places) × (length (now kept) ≡ places) ⌝ }
-    ensures { λ r. ⌜ filtered (numberOf (r .answer)) (r .least) (now (kept .exit)) (now (work .exit)) ≡ filterDone (verdictHeld (handed places (size .states) (size .values) (size .start .0) (now (targets .entry)) (now (costs .entry)) accepting) (now (held .entry))) (now (work .entry)) ⌝ }
+    requires { ⌜ Lent (handed places (size .states) (size .values) (size .start .0) (now targets) (now costs) accepting) (now work) × Held places (size .states) (size .values) (size .start .0) (heldIn places (now memory)) × (length (now kept) ≡ places) ⌝ }
+    ensures { λ r. ⌜ filtered (numberOf (r .answer)) (r .least) (now (kept .exit)) (now (work .exit)) ≡ filterDone (verdictHeld (handed places (size .states) (size .values) (size .start .0) (now (targets .entry)) (now (costs .entry)) accepting) (heldIn places (now (memory .entry)))) (now (work .entry)) ⌝ }
 {
-    replay::restore(places, &held[layout::OPENING..], masks, limits);
-    let count = (held[layout::DECISIONS] + held[layout::MARKS]) as usize;
-    replay::replay(count, &held[layout::ROWS..layout::OPENING], masks, limits);
+    let mut masks_room = [0u16; bounds::MOST_PLACES];
+    let mut limits_room = [0u32; bounds::MOST_PLACES];
+    let masks = &mut masks_room[..places];
+    let limits = &mut limits_room[..places];
+    replay::come_to(places, memory, masks, limits);
     filter::filter(
         places,
         size,
@@ -45,78 +44,6 @@ fn refresh(
         kept,
         work,
     )
-}
-
-// Whether what is shown is the filter of what is held; masks, limits and kept are lent to work in.
-fn shown_with(
-    places: usize,
-    size: Size,
-    targets: &[u8],
-    costs: &[u16],
-    accepting: u64,
-    memory: &[u32],
-    masks: &mut [u16],
-    limits: &mut [u32],
-    kept: &mut [u16],
-    work: &mut [u32],
-) -> bool
-    requires { ⌜ Lent (handed places (size .states) (size .values) (size .start .0) (now targets) (now costs) accepting) (now work) × Held places (size .states) (size .values) (size .start .0) (heldIn places (now memory)) × (length (now masks) ≡ places) × (length (now limits) ≡ places) × (length (now kept) ≡ places) ⌝ }
-    ensures { λ r. ⌜ Compared (handed places (size .states) (size .values) (size .start .0) (now (targets .entry)) (now (costs .entry)) accepting) (now (memory .entry)) (now (work .entry)) r (now (work .exit)) ⌝ }
-{
-    let front = places + layout::SHOWN;
-    let fresh = refresh(
-        places,
-        size,
-        targets,
-        costs,
-        accepting,
-        &memory[front..],
-        masks,
-        limits,
-        kept,
-        work,
-    );
-    let answer = fresh.answer;
-    shown::same_shown(answer.number() as u32, fresh.least, kept, &memory[..front])
-}
-
-// Shows the filter of what is held, and answers by it; masks, limits and kept are lent to work in.
-fn show_with(
-    places: usize,
-    size: Size,
-    targets: &[u8],
-    costs: &[u16],
-    accepting: u64,
-    memory: &mut [u32],
-    masks: &mut [u16],
-    limits: &mut [u32],
-    kept: &mut [u16],
-    work: &mut [u32],
-) -> Answer
-    requires { ⌜ Lent (handed places (size .states) (size .values) (size .start .0) (now targets) (now costs) accepting) (now work) × Held places (size .states) (size .values) (size .start .0) (heldIn places (now memory)) × (length (now masks) ≡ places) × (length (now limits) ≡ places) × (length (now kept) ≡ places) ⌝ }
-    ensures { λ r. ⌜ left (numberOf r) (now (memory .exit)) (now (work .exit)) ≡ renewedBy (handed places (size .states) (size .values) (size .start .0) (now (targets .entry)) (now (costs .entry)) accepting) (heldIn places (now (memory .entry))) (now (work .entry)) ⌝ }
-{
-    let front = places + layout::SHOWN;
-    let verdict = refresh(
-        places,
-        size,
-        targets,
-        costs,
-        accepting,
-        &memory[front..],
-        masks,
-        limits,
-        kept,
-        work,
-    );
-    let answer = verdict.answer;
-    shown::show(
-        answer.number() as u32,
-        verdict.least,
-        kept,
-        &mut memory[..front],
-    );
-    answer
 }
 
 // Whether what is shown is the filter of what is held.
@@ -132,21 +59,10 @@ pub(crate) fn shown_right(
     requires { ⌜ Lent (handed places (size .states) (size .values) (size .start .0) (now targets) (now costs) accepting) (now work) × Held places (size .states) (size .values) (size .start .0) (heldIn places (now memory)) ⌝ }
     ensures { λ r. ⌜ Compared (handed places (size .states) (size .values) (size .start .0) (now (targets .entry)) (now (costs .entry)) accepting) (now (memory .entry)) (now (work .entry)) r (now (work .exit)) ⌝ }
 {
-    let mut masks = [0u16; bounds::MOST_PLACES];
-    let mut limits = [0u32; bounds::MOST_PLACES];
-    let mut kept = [0u16; bounds::MOST_PLACES];
-    shown_with(
-        places,
-        size,
-        targets,
-        costs,
-        accepting,
-        memory,
-        &mut masks[..places],
-        &mut limits[..places],
-        &mut kept[..places],
-        work,
-    )
+    let mut room = [0u16; bounds::MOST_PLACES];
+    let kept = &mut room[..places];
+    let fresh = refresh(places, size, targets, costs, accepting, memory, kept, work);
+    shown::same_shown(fresh, kept, memory)
 }
 
 // Shows the filter of what is held, and answers by it.
@@ -162,19 +78,9 @@ pub(crate) fn show_held(
     requires { ⌜ Lent (handed places (size .states) (size .values) (size .start .0) (now targets) (now costs) accepting) (now work) × Held places (size .states) (size .values) (size .start .0) (heldIn places (now memory)) ⌝ }
     ensures { λ r. ⌜ left (numberOf r) (now (memory .exit)) (now (work .exit)) ≡ renewedBy (handed places (size .states) (size .values) (size .start .0) (now (targets .entry)) (now (costs .entry)) accepting) (heldIn places (now (memory .entry))) (now (work .entry)) ⌝ }
 {
-    let mut masks = [0u16; bounds::MOST_PLACES];
-    let mut limits = [0u32; bounds::MOST_PLACES];
-    let mut kept = [0u16; bounds::MOST_PLACES];
-    show_with(
-        places,
-        size,
-        targets,
-        costs,
-        accepting,
-        memory,
-        &mut masks[..places],
-        &mut limits[..places],
-        &mut kept[..places],
-        work,
-    )
+    let mut room = [0u16; bounds::MOST_PLACES];
+    let kept = &mut room[..places];
+    let fresh = refresh(places, size, targets, costs, accepting, memory, kept, work);
+    shown::show(fresh, kept, memory);
+    fresh.answer
 }

@@ -1,29 +1,22 @@
+use native.Mathlib.Omega.{arith}
 use mathlib.Core.Path.{sym}
-use Rattle.machine.proofs.Refreshes.{front-zeros}
+use Rattle.machine.proofs.Replays.{front-inside}
+use Rattle.machine.proofs.Refreshes.{front-zeros, renews}
 use borrow.Author.Needs.{needs}
 use Rattle.machine.proofs.refresh.show_held.Statement.{statement}
 use Rattle.machine.proofs.refresh.show_held.Tie as tie
 
-array-borrow-prefix-masks : tie.Need-array-borrow-prefix-masks
-array-borrow-prefix-masks c = search needs
+array-borrow-prefix-room : tie.Need-array-borrow-prefix-room
+array-borrow-prefix-room c = search needs
 
-slice-aggregate-show-with : tie.Need-slice-aggregate-show-with
-slice-aggregate-show-with c = front-zeros _ (c .before .before .before .before .before .before .pre .1 .few-places)
+slice-aggregate-kept : tie.Need-slice-aggregate-kept
+slice-aggregate-kept c = front-zeros _ (c .before .before .before .before .before .pre .1 .few-places)
 
-array-borrow-prefix-limits : tie.Need-array-borrow-prefix-limits
-array-borrow-prefix-limits c = search needs
+refresh-requires : tie.Need-refresh-requires
+refresh-requires c κs = let p = c .before .before .before .before .before .before .before .before .pre in (p .0, p .1, sym (front-zeros _ (p .1 .few-places)))
 
-slice-aggregate-show-with-2 : tie.Need-slice-aggregate-show-with-2
-slice-aggregate-show-with-2 c = front-zeros _ (c .before .before .before .before .before .before .before .pre .1 .few-places)
-
-array-borrow-prefix-kept : tie.Need-array-borrow-prefix-kept
-array-borrow-prefix-kept c = search needs
-
-slice-aggregate-show-with-3 : tie.Need-slice-aggregate-show-with-3
-slice-aggregate-show-with-3 c = front-zeros _ (c .before .before .before .before .before .before .before .before .pre .1 .few-places)
-
-show-with-requires : tie.Need-show-with-requires
-show-with-requires c κs = let p = c .before .before .before .before .before .before .before .before .before .pre in (p .0, p .1, sym (front-zeros _ (p .1 .few-places)), sym (front-zeros _ (p .1 .few-places)), sym (front-zeros _ (p .1 .few-places)))
+show-requires : tie.Need-show-requires
+show-requires c κs = let w = front-inside _ (c .before .before .before .before .before .before .before .before .before .before .before .before .before .before .before .args .memory .now) (c .before .before .before .before .before .before .before .before .before .before .before .before .before .before .before .pre .1 .long) in omega (arith, front-zeros _ (c .before .before .before .before .before .before .before .before .before .before .before .before .before .before .before .pre .1 .few-places))
 
 same-length : tie.Need-same-length
 same-length c = search needs
@@ -32,19 +25,16 @@ same-length-2 : tie.Need-same-length-2
 same-length-2 c = search needs
 
 returns : tie.Need-returns
-returns c = search needs
+returns c = renews _ (c .before .before .before .before .before .before .before .before .before .before .before .before .before .before .before .before .before .before .before .args .memory .now) _ _ _ _ _ (omega (arith, front-zeros _ (c .before .before .before .before .before .before .before .before .before .before .before .before .before .before .before .before .before .before .before .pre .1 .few-places))) (c .before .before .before .before .before .before .before .before .before .before .refresh .ensures) _ (c .before .before .before .show .ensures)
 
 pub show-held-spec : {M : Type 1} → statement M
 show-held-spec =
     tie.close
     (tie.spec
-    array-borrow-prefix-masks
-    slice-aggregate-show-with
-    array-borrow-prefix-limits
-    slice-aggregate-show-with-2
-    array-borrow-prefix-kept
-    slice-aggregate-show-with-3
-    show-with-requires
+    array-borrow-prefix-room
+    slice-aggregate-kept
+    refresh-requires
+    show-requires
     same-length
     same-length-2
     returns)
