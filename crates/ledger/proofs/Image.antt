@@ -13,7 +13,7 @@ use Rattle.rules.specs.Checks.{masksRight}
 use Rattle.rules.proofs.Checks.{both}
 use Rattle.ledger.specs.Sessions.{Opening, opening, Entry, decision, mark, isMark, marks, isDecision, decisions, decisionRight}
 use Rattle.ledger.proofs.Bounds.{entryRight, entriesRight, WithinBounds}
-use Rattle.ledger.specs.Layout.{mostEntries, rowSize, rowsSize, headSize, spareSize, openingPlace}
+use Rattle.ledger.specs.Layout.{mostDecisions, mostMarks, mostEntries, rowSize, rowsSize, headSize, spareSize, openingPlace}
 use Rattle.ledger.specs.Memory.{Held, allZero, rowRight, rowsRight, entryOf, entryAt, entriesAt, headRight, roomRight, heldRight, rowsOf, countOf, entriesOf, openingAt, openingOf, heldOf, rows, kindOf, placeOf, amountOf}
 use Rattle.ledger.proofs.Numbers.{and-both, zeros-are, zeros-yes}
 use Rattle.ledger.proofs.Entries.{rowAt}
@@ -160,6 +160,9 @@ module _ (n q v start : ℕ) (l : List ℕ) (long : length l ≡ openingPlace + 
   pub held-masks : masksRight v (take n (drop openingPlace l)) ≡ true
   unfolding heldRight
   held-masks = both (roomRight n v (getD l 4 0) (getD l 5 0) (rowsOf l)) _ (both (headRight n q v start l) _ in-range .1) .1
+
+  pub held-few : (getD l 4 0 ≤ mostDecisions) × (getD l 5 0 ≤ mostMarks)
+  held-few = let g = head-all n q v start l held-head in (g .0 .d-high, g .0 .m-high)
 
   pub room-long : length (rowsOf l) ≡ rowsSize
   unfolding rowsOf

@@ -18,11 +18,10 @@ use Rattle.rules.specs.Answers.{decided, zeros}
 use Rattle.rules.proofs.Checks.{both}
 use Rattle.ledger.specs.Sessions.{standing, placesBy, verdictBy}
 use Rattle.ledger.specs.Readiness.{left, renewedBy, Lent}
-use Rattle.ledger.specs.Layout.{openingPlace, shownSize, mostDecisions, mostMarks}
+use Rattle.ledger.specs.Layout.{openingPlace, shownSize}
 use Rattle.ledger.specs.Memory.{rowsOf, entriesOf, openingAt, openingOf, heldIn, same, shownOf, verdictHeld, Held}
 use Rattle.ledger.proofs.Numbers.{and-both, below-more, masks-below}
-use Rattle.ledger.proofs.Image.{held-head, held-room, held-masks, room-long, room-rows}
-use Rattle.ledger.proofs.Head.{head-all}
+use Rattle.ledger.proofs.Image.{held-few, held-room, held-masks, room-long, room-rows}
 use Rattle.machine.specs.Inner.{Compared, Replayable}
 use Rattle.machine.proofs.Ranges.{rows-safe}
 use Rattle.filter.specs.Filter.{Left, left as filtered, lengthsRight, filterDone, filterOf}
@@ -57,13 +56,10 @@ module _ (v : ℕ) where
 
 -- what is held can be replayed
 module _ (n q v start : ℕ) (l : List ℕ) (h : Held n q v start l) where
-  few : (getD l 4 0 ≤ mostDecisions) × (getD l 5 0 ≤ mostMarks)
-  few = let g = head-all n q v start l (held-head n q v start l (h .long) (h .right)) in (g .0 .d-high, g .0 .m-high)
-
   pub replayable : Replayable n l
   unfolding rowsOf
   replayable =
-      let w = few in record {
+      let w = held-few n q v start l (h .long) (h .right) in record {
         long = h .long;
         narrow = below-more (2 ^ v) 65536 (take n (drop openingPlace l)) (pow-mono (h .few-values))
             (sym (masks-below v (take n (drop openingPlace l))) ∙ held-masks n q v start l (h .long) (h .right));

@@ -16,9 +16,8 @@ use Rattle.ledger.proofs.Bounds.{WithinBounds}
 use Rattle.ledger.specs.Layout.{mostEntries, rowSize, rowsSize, headSize, spareSize, openingPlace}
 use Rattle.ledger.specs.Memory.{countOf, rowsOf, entryOf, entryAt, entriesAt, entriesOf, openingOf, heldOf, rows, rowsRight, Held}
 use Rattle.ledger.proofs.Numbers.{and-both, part-long}
-use Rattle.ledger.proofs.Image.{count-all, entries-length, rows-length, rows-back, entries-in-range, reads-back, reads-within, room-rows, room-long, held-room}
+use Rattle.ledger.proofs.Image.{count-all, entries-length, rows-length, rows-back, entries-in-range, reads-back, reads-within, room-rows, room-long, held-room, held-few}
 use Rattle.ledger.proofs.Entries.{rowAt, rows-at}
-use Rattle.machine.proofs.Refreshes.{held-few}
 use Rattle.session.specs.Inner.{Counted, markAt, undoneAt}
 use Rattle.session.proofs.Pushes.{held-counts}
 
@@ -114,10 +113,10 @@ module _ (n q v start : ℕ) (l : List ℕ) (h : Held n q v start l) where
 
   few-all : countOf l ≤ mostEntries
   unfolding countOf
-  few-all = let w = held-few n q v start l h in omega (arith, w .0, w .1)
+  few-all = let w = held-few n q v start l (h .long) (h .right) in omega (arith, w .0, w .1)
 
   pub counted : Counted l
-  counted = let w = held-few n q v start l h in record { few = w .0; open-few = w .1; long = omega (arith, h .long) }
+  counted = let w = held-few n q v start l (h .long) (h .right) in record { few = w .0; open-few = w .1; long = omega (arith, h .long) }
 
   module _ (i : ℕ) (low : i ≤ countOf l) where
     abbrev ds : List Entry
