@@ -16,61 +16,6 @@ use rooms::backward::BYTES;
 use rules::bounds;
 use rules::numbers::clear;
 
-// The filter, with room for what it works out on the way.
-pub(crate) fn filter_in(
-    states: usize,
-    values: usize,
-    targets: &[u8],
-    costs: &[u16],
-    accepting: u64,
-    start: State,
-    spent: u32,
-    masks: &[u16],
-    limits: &[u32],
-    kept: &mut [u16],
-    work: &mut [u32],
-    to: &mut [u8],
-    fee: &mut [u16],
-    next: &mut [u32],
-    front: &mut [u32],
-    onward: &mut [u32],
-    hints: &mut [u8],
-) -> u32
-    requires { ⌜ Sizes states values (now targets) (now costs) (now masks) (now limits) (now work) × (start .0 < states) × (spent ≤ top) × (length (now kept) ≡ length (now masks)) × (length (now to) ≡ tableSize) × (length (now fee) ≡ tableSize) × (length (now next) ≡ 256) × (length (now front) ≡ mostStates) × (length (now onward) ≡ 256) × (length (now hints) ≡ mostValues) ⌝ }
-    ensures { λ r. ⌜ Filters (rulesOf states values (now (targets .entry)) (now (costs .entry)) accepting) (start .0) spent (places (now (masks .entry)) (now (limits .entry))) (now (work .entry)) (now (work .exit)) (now (kept .exit)) r ⌝ }
-{
-    backward::prepare(
-        states,
-        values,
-        targets,
-        costs,
-        accepting,
-        masks,
-        limits,
-        to,
-        fee,
-        next,
-        work,
-    );
-    let least = forward::pass(
-        states,
-        values,
-        to,
-        fee,
-        start,
-        spent,
-        masks,
-        work,
-        front,
-        next,
-        onward,
-        hints,
-        kept,
-    );
-    clear(work);
-    least
-}
-
 // The filter of a rule set that was found in order: the least cost, one more than the top where no roster is allowed.
 pub(crate) fn filter_from(
     states: usize,
@@ -94,78 +39,36 @@ pub(crate) fn filter_from(
     let mut front = [0u32; bounds::MOST_STATES];
     let mut onward = [0u32; BYTES];
     let mut hints = [0u8; bounds::MOST_VALUES];
-    filter_in(
-        states,
-        values,
-        targets,
-        costs,
-        accepting,
-        start,
-        spent,
-        masks,
-        limits,
-        kept,
-        work,
-        &mut to,
-        &mut fee,
-        &mut next,
-        &mut front,
-        &mut onward,
-        &mut hints,
-    )
-}
-
-// The first roster, with room for what it works out on the way; says whether there is one.
-pub(crate) fn first_in(
-    states: usize,
-    values: usize,
-    targets: &[u8],
-    costs: &[u16],
-    accepting: u64,
-    start: State,
-    spent: u32,
-    masks: &[u16],
-    limits: &[u32],
-    place: usize,
-    value: Value,
-    roster: &mut [u8],
-    work: &mut [u32],
-    own: &mut [u16],
-    to: &mut [u8],
-    fee: &mut [u16],
-    next: &mut [u32],
-) -> bool
-    requires { ⌜ Sizes states values (now targets) (now costs) (now masks) (now limits) (now work) × (start .0 < states) × (spent ≤ top) × (length (now roster) ≡ length (now masks)) × (place < length (now masks)) × (length (now own) ≡ length (now masks)) × (length (now to) ≡ tableSize) × (length (now fee) ≡ tableSize) × (length (now next) ≡ 256) ⌝ }
-    ensures { λ r. ⌜ Finds (rosters (rulesOf states values (now (targets .entry)) (now (costs .entry)) accepting) (start .0) spent (places (now (masks .entry)) (now (limits .entry)))) place (value .0) (now (roster .entry)) (now (roster .exit)) (now (work .entry)) (now (work .exit)) r ⌝ }
-{
-    alone::narrow(masks, place, value, own);
     backward::prepare(
         states,
         values,
         targets,
         costs,
         accepting,
-        own,
+        masks,
         limits,
-        to,
-        fee,
-        next,
+        &mut to,
+        &mut fee,
+        &mut next,
         work,
     );
-    let found = walk::walk(
+    let least = forward::pass(
         states,
         values,
-        to,
-        fee,
+        &to,
+        &fee,
         start,
         spent,
-        own,
+        masks,
         work,
-        next,
-        roster,
+        &mut front,
+        &mut next,
+        &mut onward,
+        &mut hints,
+        kept,
     );
     clear(work);
-    found
+    least
 }
 
 // The first roster of a rule set that was found in order.
@@ -188,27 +91,37 @@ pub(crate) fn first_from(
     ensures { λ r. ⌜ Finds (rosters (rulesOf states values (now (targets .entry)) (now (costs .entry)) accepting) (start .0) spent (places (now (masks .entry)) (now (limits .entry)))) place (value .0) (now (roster .entry)) (now (roster .exit)) (now (work .entry)) (now (work .exit)) r ⌝ }
 {
     let count = masks.len();
-    let mut own = [0u16; bounds::MOST_PLACES];
+    let mut room = [0u16; bounds::MOST_PLACES];
     let mut to = [0u8; bounds::TABLE_SIZE];
     let mut fee = [0u16; bounds::TABLE_SIZE];
     let mut next = [0u32; BYTES];
-    first_in(
+    let own = &mut room[..count];
+    alone::narrow(masks, place, value, own);
+    backward::prepare(
         states,
         values,
         targets,
         costs,
         accepting,
-        start,
-        spent,
-        masks,
+        own,
         limits,
-        place,
-        value,
-        roster,
-        work,
-        &mut own[..count],
         &mut to,
         &mut fee,
         &mut next,
-    )
+        work,
+    );
+    let found = walk::walk(
+        states,
+        values,
+        &to,
+        &fee,
+        start,
+        spent,
+        own,
+        work,
+        &mut next,
+        roster,
+    );
+    clear(work);
+    found
 }
