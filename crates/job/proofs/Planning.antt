@@ -5,12 +5,11 @@ use mathlib.Core.List.{List, [], _∷_}
 use Prim.Native.Nat.{ℕ, zero, suc, _-_, _^_, _≤_}
 use native.Mathlib.Omega.{arith}
 use lib.ListN.{length, take, drop, replicate, length-replicate}
-use lib.Seq.{length-take-le}
 use lib.Pow.{pow-pos}
 use borrow.Author.Tests.{lt-ltb}
 use Rattle.meaning.specs.Meaning.{Rules, places, decides, verdictOf}
 use Rattle.meaning.specs.Lists.{all}
-use Rattle.meaning.specs.Bounds.{workSize, top}
+use Rattle.meaning.specs.Bounds.{top}
 use Rattle.rules.specs.Checks.{sizeRight, sizesRight, rulesRight, masksRight}
 use Rattle.rules.proofs.Checks.{both, Size, size-of, sizes-last}
 use Rattle.text.specs.Numbers.{readNumber}
@@ -122,19 +121,3 @@ module _ (r : Rules) (s v : ℕ) (text : List ℕ) where
     pub job-right : (n : ℕ) → d ≡ the-days.Right n → readDecisions n v 2 mostLines (lines (drop end text)) ≡ readJob v (lines text)
     unfolding readJob
     job-right n k = sym (rw (cuts, sym e ∙ ap daysView k))
-
--- the parts lent for n days
-pub days-kept : (n : ℕ) (ks : List ℕ) → n ≤ mostDays → length ks ≡ mostDays → length (take n ks) ≡ n
-days-kept n ks h e = length-take-le n ks (omega arith)
-
-pub days-lent : (n full : ℕ) (ms ls ks work : List ℕ) → (1 ≤ n) × (n ≤ mostDays) → ms ≡ replicate mostDays full → ls ≡ replicate mostDays top → length ks ≡ mostDays → length work ≡ workSize mostDays
-    → (1 ≤ length (take n ks)) × (length (take n ks) ≤ mostDays) × (take n ms ≡ replicate (length (take n ks)) full) × (take n ls ≡ replicate (length (take n ks)) top)
-    × (length (take (workSize n) work) ≡ workSize (length (take n ks)))
-days-lent n full ms ls ks work h em el ek ew =
-    let k : length (take n ks) ≡ n = days-kept n ks (h .1) ek in (
-      omega (arith, k, h .0),
-      omega (arith, k, h .1),
-      first-of n mostDays full ms (h .1) em ∙ ap (λ (i : ℕ). replicate i full) (sym k),
-      first-of n mostDays top ls (h .1) el ∙ ap (λ (i : ℕ). replicate i top) (sym k),
-      length-take-le (workSize n) work (omega (arith, h .1)) ∙ ap (λ (i : ℕ). workSize i) (sym k),
-    )

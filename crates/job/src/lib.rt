@@ -13,7 +13,7 @@ mod show;
 mod take;
 
 use crate::cut::cut_at;
-use crate::plan::plan_apart;
+use crate::plan::plan;
 use crate::print::put_line;
 use rules::bounds;
 use sheet::read_sheet;
@@ -40,7 +40,7 @@ fn job_in(input: &[u8], targets: &mut [u8], costs: &mut [u16], output: &mut [u8]
     if !cut.found {
         return put_line(output, 0, b"job\t", 1);
     }
-    plan_apart(
+    plan(
         &input[job_start..],
         read.size,
         targets,

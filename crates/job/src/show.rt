@@ -1,17 +1,25 @@
 // What a filter tells, printed.
 ghost use mathlib.Core.Path.{_≡_};
 ghost use mathlib.Core.Bool.{true};
+ghost use Prim.Native.Nat.{_≤_};
 ghost use lib.ListN.{length};
 ghost use Rattle.meaning.specs.Meaning.{rulesOf, places, verdictOf};
-ghost use Rattle.meaning.specs.Bounds.{workSize};
 ghost use Rattle.rules.specs.Checks.{sizesRight, rulesRight, masksRight};
 ghost use Rattle.text.specs.Writing.{Wrote};
+ghost use Rattle.job.specs.Input.{mostDays};
 ghost use Rattle.job.specs.Output.{verdictText};
+use crate::asks::MOST_DAYS;
 use crate::print::put_line;
 use crate::print::put_masks;
 use filter::filter;
 use rules::Size;
+use rules::bounds;
 use text::puts::put_word;
+
+// Room for as many days as a job may have, and for their work table.
+pub(crate) const DAYS: usize = MOST_DAYS as usize;
+
+const WORK_SIZE: usize = (DAYS + 1) * bounds::MOST_STATES;
 
 // Filters, and prints the kept masks and the least cost, or that there is no roster.
 pub(crate) fn show(
@@ -22,13 +30,16 @@ pub(crate) fn show(
     accepting: u64,
     masks: &[u16],
     limits: &[u32],
-    kept: &mut [u16],
-    work: &mut [u32],
     output: &mut [u8],
 ) -> usize
-    requires { ⌜ (sizesRight days (size .states) (size .values) (size .start .0) ≡ true) × (rulesRight (size .states) (size .values) (size .start .0) (now targets) (now costs) accepting ≡ true) × (masksRight (size .values) (now masks) ≡ true) × (length (now masks) ≡ days) × (length (now limits) ≡ days) × (length (now kept) ≡ days) × (length (now work) ≡ workSize days) ⌝ }
+    requires { ⌜ (sizesRight days (size .states) (size .values) (size .start .0) ≡ true) × (rulesRight (size .states) (size .values) (size .start .0) (now targets) (now costs) accepting ≡ true) × (masksRight (size .values) (now masks) ≡ true) × (length (now masks) ≡ days) × (length (now limits) ≡ days) × (days ≤ mostDays) ⌝ }
     ensures { λ r. ⌜ Wrote (now (output .entry)) 0 (verdictText (verdictOf (rulesOf (size .states) (size .values) (now (targets .entry)) (now (costs .entry)) accepting) (size .start .0) 0 (places (now (masks .entry)) (now (limits .entry))))) (now (output .exit)) r ⌝ }
 {
+    let wide = (days + 1) * bounds::MOST_STATES;
+    let mut kept_room = [0u16; DAYS];
+    let mut work_room = [0u32; WORK_SIZE];
+    let kept = &mut kept_room[..days];
+    let work = &mut work_room[..wide];
     let filtered = filter(
         days,
         size,

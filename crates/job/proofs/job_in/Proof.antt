@@ -65,17 +65,17 @@ returns-2 c =
     let a = c .before .before .before .before .before .before .before .before .before .before .before .before .before .before .before .before .before .before .before .before .before .before .args in
     wrote-is _ _ _ _ _ _ (job-missing (a .input .now) _ _ _ _ _ _ _ _ _ (c .before .before .before .before .before .before .before .before .before .before .before .before .before .read-sheet .ensures ∙ ap (λ (x : List ℕ). readOf x (a .targets .now) (a .costs .now)) (c .before .before .before .before .before .before .before .before .before .before .before .before .before .before .before .before .before .cut-at .ensures .sheet-is)) (sym (c .before .before .before .before .before .before .before .before .number .ensures) ∙ c .before .before .before .before .before .before .before .if1 .left) (sym (c .before .before .before .before .before .before .before .before .before .before .before .before .before .before .before .before .before .cut-at .ensures .finds) ∙ not-true _ (c .before .before .before .before .before .if2 .taken))) (c .before .before .put-line2 .ensures)
 
-sub-plan-apart : tie.Need-sub-plan-apart
-sub-plan-apart c = search needs
+sub-plan : tie.Need-sub-plan
+sub-plan c = search needs
 
-part-plan-apart-start : tie.Need-part-plan-apart-start
-part-plan-apart-start c = search needs
+part-plan-start : tie.Need-part-plan-start
+part-plan-start c = search needs
 
-part-plan-apart-end : tie.Need-part-plan-apart-end
-part-plan-apart-end c = search needs
+part-plan-end : tie.Need-part-plan-end
+part-plan-end c = search needs
 
-plan-apart-requires : tie.Need-plan-apart-requires
-plan-apart-requires c κs = read-right _ _ _ _ _ _ _ _ _ _ _ (c .before .before .before .before .before .before .before .before .before .before .before .before .read-sheet .ensures) (sym (c .before .before .before .before .before .before .before .number .ensures) ∙ c .before .before .before .before .before .before .if1 .left)
+plan-requires : tie.Need-plan-requires
+plan-requires c κs = read-right _ _ _ _ _ _ _ _ _ _ _ (c .before .before .before .before .before .before .before .before .before .before .before .before .read-sheet .ensures) (sym (c .before .before .before .before .before .before .before .number .ensures) ∙ c .before .before .before .before .before .before .if1 .left)
 
 same-length-7 : tie.Need-same-length-7
 same-length-7 c = search needs
@@ -89,7 +89,7 @@ same-length-9 c = search needs
 returns-3 : tie.Need-returns-3
 returns-3 c =
     let a = c .before .before .before .before .before .before .before .before .before .before .before .before .before .before .before .before .before .before .before .before .before .before .before .before .args in
-    wrote-is _ _ _ _ _ _ (job-there (a .input .now) _ _ _ _ _ _ _ _ _ (c .before .before .before .before .before .before .before .before .before .before .before .before .before .before .before .read-sheet .ensures ∙ ap (λ (x : List ℕ). readOf x (a .targets .now) (a .costs .now)) (c .before .before .before .before .before .before .before .before .before .before .before .before .before .before .before .before .before .before .before .cut-at .ensures .sheet-is)) _ (rest-is (a .input .now) (c .before .before .before .before .before .before .before .before .before .before .before .before .before .before .before .before .before .before .before .cut-at .result .job) ∙ c .before .before .before .before .before .before .before .before .before .before .before .before .before .before .before .before .before .before .before .cut-at .ensures .job-is) (sym (c .before .before .before .before .before .before .before .before .before .before .number .ensures) ∙ c .before .before .before .before .before .before .before .before .before .if1 .left) (sym (c .before .before .before .before .before .before .before .before .before .before .before .before .before .before .before .before .before .before .before .cut-at .ensures .finds) ∙ not-false _ (c .before .before .before .before .before .before .before .if2 .left))) (c .before .before .plan-apart .ensures)
+    wrote-is _ _ _ _ _ _ (job-there (a .input .now) _ _ _ _ _ _ _ _ _ (c .before .before .before .before .before .before .before .before .before .before .before .before .before .before .before .read-sheet .ensures ∙ ap (λ (x : List ℕ). readOf x (a .targets .now) (a .costs .now)) (c .before .before .before .before .before .before .before .before .before .before .before .before .before .before .before .before .before .before .before .cut-at .ensures .sheet-is)) _ (rest-is (a .input .now) (c .before .before .before .before .before .before .before .before .before .before .before .before .before .before .before .before .before .before .before .cut-at .result .job) ∙ c .before .before .before .before .before .before .before .before .before .before .before .before .before .before .before .before .before .before .before .cut-at .ensures .job-is) (sym (c .before .before .before .before .before .before .before .before .before .before .number .ensures) ∙ c .before .before .before .before .before .before .before .before .before .if1 .left) (sym (c .before .before .before .before .before .before .before .before .before .before .before .before .before .before .before .before .before .before .before .cut-at .ensures .finds) ∙ not-false _ (c .before .before .before .before .before .before .before .if2 .left))) (c .before .before .plan .ensures)
 
 pub job-in-spec : {M : Type 1} → statement M
 job-in-spec =
@@ -111,10 +111,10 @@ job-in-spec =
     same-length-5
     same-length-6
     returns-2
-    sub-plan-apart
-    part-plan-apart-start
-    part-plan-apart-end
-    plan-apart-requires
+    sub-plan
+    part-plan-start
+    part-plan-end
+    plan-requires
     same-length-7
     same-length-8
     same-length-9

@@ -1,24 +1,45 @@
-use mathlib.Core.Path.{refl, sym, _∙_}
-use Prim.Native.Nat.{_-_, _^_}
+use mathlib.Core.Path.{refl, sym, ap, _∙_}
+use Prim.Native.Nat.{ℕ, _-_, _^_}
 use native.Mathlib.Omega.{arith}
-use lib.ListN.{length, drop}
+use lib.ListN.{drop, replicate}
+use lib.Seq.{length-take-le}
+use lib.Pow.{pow-mono}
 use Rattle.meaning.specs.Meaning.{rulesOf}
 use Rattle.meaning.specs.Bounds.{top}
 use Rattle.text.specs.Lines.{lines}
+use Rattle.job.specs.Input.{mostDays}
 use Rattle.job.specs.Output.{jobLine}
 use Rattle.job.proofs.Showing.{wrote-is}
-use Rattle.job.proofs.Planning.{right-size, right-sizes, length-of, carried-wrong, carried-all, carried-right}
+use Rattle.job.proofs.Planning.{right-size, right-sizes, length-of, first-of, carried-wrong, carried-all, carried-right}
 use borrow.Author.Needs.{needs}
 use Rattle.job.proofs.plan.carry_out.Statement.{statement}
 use Rattle.job.proofs.plan.carry_out.Tie as tie
 
+highest-requires : tie.Need-highest-requires
+highest-requires c κs = let a = c .before .before .before .before .args in right-size (a .size .states) _ (a .size .start .0) (a .targets .now) (a .costs .now) (a .accepting) (c .before .before .before .before .pre .0) .few-values
+
+cast-full : tie.Need-cast-full
+cast-full c = let a = c .before .before .before .before .before .args in
+    let s = right-size (a .size .states) (a .size .values) (a .size .start .0) (a .targets .now) (a .costs .now) (a .accepting) (c .before .before .before .before .before .pre .0) in
+    omega (arith, c .highest .ensures, pow-mono {i = a .size .values} {j = 16} (s .few-values))
+
+array-borrow-prefix-mask-room : tie.Need-array-borrow-prefix-mask-room
+array-borrow-prefix-mask-room c = omega (arith, c .before .before .before .before .before .pre .2)
+
+slice-aggregate-masks : tie.Need-slice-aggregate-masks
+slice-aggregate-masks c = sym (length-take-le _ _ (omega (arith, c .before .before .before .before .before .before .pre .2)))
+
+array-borrow-prefix-limit-room : tie.Need-array-borrow-prefix-limit-room
+array-borrow-prefix-limit-room c = omega (arith, c .before .before .before .before .before .before .pre .2)
+
+slice-aggregate-limits : tie.Need-slice-aggregate-limits
+slice-aggregate-limits c = sym (length-take-le _ _ (omega (arith, c .before .before .before .before .before .before .before .pre .2)))
+
 take-lines-requires : tie.Need-take-lines-requires
-take-lines-requires c κs =
-    let p = c .before .before .before .before .before .before .before .before .before .before .pre in
-    let a = c .before .before .before .before .before .before .before .before .before .before .args in
-    let m = length-of (length (a .kept .now)) (2 ^ a .size .values - 1) (a .masks .now) (p .3) in
-    let l = length-of (length (a .kept .now)) top (a .limits .now) (p .4) in
-    (omega (arith, m, p .1), omega (arith, m, p .2), l ∙ sym m, right-size (a .size .states) _ (a .size .start .0) (a .targets .now) (a .costs .now) (a .accepting) (p .0) .few-values, p .6)
+take-lines-requires c κs = let p = c .before .before .before .before .before .before .before .before .before .pre in
+    let a = c .before .before .before .before .before .before .before .before .before .args in
+    let m = length-take-le (a .days) (replicate mostDays (c .before .before .before .before .highest .result)) (omega (arith, p .2)) in
+    (omega (arith, m, p .1), omega (arith, m, p .2), length-take-le _ _ (omega (arith, p .2)) ∙ sym m, right-size (a .size .states) _ (a .size .start .0) (a .targets .now) (a .costs .now) (a .accepting) (p .0) .few-values, p .3)
 
 enum-known-taken : tie.Need-enum-known-taken
 enum-known-taken c = search needs
@@ -33,61 +54,47 @@ enum-told : tie.Need-enum-told
 enum-told c = search needs
 
 show-requires : tie.Need-show-requires
-show-requires c κs =
-    let p = c .before .before .before .before .before .before .before .before .before .before .before .before .before .before .before .before .before .before .before .before .before .before .pre in
-    let a = c .before .before .before .before .before .before .before .before .before .before .before .before .before .before .before .before .before .before .before .before .before .before .args in
-    let m = length-of (length (a .kept .now)) (2 ^ a .size .values - 1) (a .masks .now) (p .3) in
-    let l = length-of (length (a .kept .now)) top (a .limits .now) (p .4) in (
-      right-sizes (length (a .kept .now)) (a .size .states) (a .size .values) (a .size .start .0) (a .targets .now) (a .costs .now) (a .accepting) (p .1) (p .2) (p .0),
+unfolding top
+show-requires c κs = let p = c .before .before .before .before .before .before .before .before .before .before .before .before .before .before .before .before .before .before .before .pre in
+    let a = c .before .before .before .before .before .before .before .before .before .before .before .before .before .before .before .before .before .before .before .args in
+    let full = first-of (a .days) mostDays (2 ^ a .size .values - 1) _ (p .2) (ap (λ (x : ℕ). replicate mostDays x) (c .before .before .before .before .before .before .before .before .before .before .before .before .before .before .highest .ensures)) in
+    let tops = first-of (a .days) mostDays top _ (p .2) refl in (
+      right-sizes (a .days) (a .size .states) (a .size .values) (a .size .start .0) (a .targets .now) (a .costs .now) (a .accepting) (p .1) (p .2) (p .0),
       p .0,
-      carried-right (rulesOf (a .size .states) (a .size .values) (a .targets .now) (a .costs .now) (a .accepting)) 0 (length (a .kept .now)) (lines (drop (a .from) (a .text .now))) (a .masks .now) (a .limits .now) _ _ (c .before .before .before .before .before .before .before .before .before .before .before .take-lines .result) (p .3) (p .4) (c .before .before .before .before .before .before .before .before .before .before .before .take-lines .ensures) (c .before .before .before .before .before .enum-told .given .1) (c .before .before .before .before .before .before .before .before .before .before .masks .given) (c .before .before .before .before .before .before .before .before .limits .given),
-      c .before .before .before .before .before .before .before .before .before .before .masks .given ∙ m,
-      c .before .before .before .before .before .before .before .before .limits .given ∙ l,
-      refl,
-      p .5,
+      carried-right (rulesOf (a .size .states) (a .size .values) (a .targets .now) (a .costs .now) (a .accepting)) 0 (a .days) (lines (drop (a .from) (a .text .now))) _ _ _ _ (c .before .before .before .before .before .before .before .before .before .take-lines .result) full tops (c .before .before .before .before .before .before .before .before .before .take-lines .ensures) (c .before .before .before .enum-told .given .1) (c .before .before .before .before .before .before .before .before .masks .given) (c .before .before .before .before .before .before .limits .given),
+      c .before .before .before .before .before .before .before .before .masks .given ∙ length-of (a .days) _ _ full,
+      c .before .before .before .before .before .before .limits .given ∙ length-of (a .days) _ _ tops,
+      p .2,
     )
 
 same-length : tie.Need-same-length
 same-length c = search needs
 
+returns : tie.Need-returns
+unfolding jobLine top
+returns c = let p = c .before .before .before .before .before .before .before .before .before .before .before .before .before .before .before .before .before .before .before .before .before .before .before .before .pre in
+    let a = c .before .before .before .before .before .before .before .before .before .before .before .before .before .before .before .before .before .before .before .before .before .before .before .before .args in
+    wrote-is _ _ _ _ _ _ (carried-wrong (rulesOf (a .size .states) (a .size .values) (a .targets .now) (a .costs .now) (a .accepting)) (a .size .start .0) (a .days) (lines (drop (a .from) (a .text .now))) _ _ _ _ (c .before .before .before .before .before .before .before .before .before .before .before .before .before .before .take-lines .result) (first-of (a .days) mostDays (2 ^ a .size .values - 1) _ (p .2) (ap (λ (x : ℕ). replicate mostDays x) (c .before .before .before .before .before .before .before .before .before .before .before .before .before .before .before .before .before .before .before .highest .ensures))) (first-of (a .days) mostDays top _ (p .2) refl) (c .before .before .before .before .before .before .before .before .before .before .before .before .before .before .take-lines .ensures) _ (c .before .before .before .before .before .before .before .before .taken .given .1)) (c .before .before .put-line .ensures)
+
 same-length-2 : tie.Need-same-length-2
 same-length-2 c = search needs
 
-same-length-3 : tie.Need-same-length-3
-same-length-3 c = search needs
-
-returns : tie.Need-returns
-unfolding jobLine
-returns c =
-    let p = c .before .before .before .before .before .before .before .before .before .before .before .before .before .before .before .before .before .before .before .before .before .before .before .pre in
-    let a = c .before .before .before .before .before .before .before .before .before .before .before .before .before .before .before .before .before .before .before .before .before .before .before .args in
-    wrote-is _ _ _ _ _ _ (carried-wrong (rulesOf (a .size .states) (a .size .values) (a .targets .now) (a .costs .now) (a .accepting)) (a .size .start .0) (length (a .kept .now)) (lines (drop (a .from) (a .text .now))) (a .masks .now) (a .limits .now) _ _ (c .before .before .before .before .before .before .before .before .before .before .before .before .take-lines .result) (p .3) (p .4) (c .before .before .before .before .before .before .before .before .before .before .before .before .take-lines .ensures) _ (c .before .before .before .before .before .before .taken .given .1)) (c .before .before .put-line .ensures)
-
-same-length-4 : tie.Need-same-length-4
-same-length-4 c = search needs
-
-same-length-5 : tie.Need-same-length-5
-same-length-5 c = search needs
-
-same-length-6 : tie.Need-same-length-6
-same-length-6 c = search needs
-
-same-length-7 : tie.Need-same-length-7
-same-length-7 c = search needs
-
-same-length-8 : tie.Need-same-length-8
-same-length-8 c = search needs
-
 returns-2 : tie.Need-returns-2
-returns-2 c =
-    let p = c .before .before .before .before .before .before .before .before .before .before .before .before .before .before .before .before .before .before .before .before .before .before .before .before .before .before .before .before .before .pre in
-    let a = c .before .before .before .before .before .before .before .before .before .before .before .before .before .before .before .before .before .before .before .before .before .before .before .before .before .before .before .before .before .args in
-    wrote-is _ _ _ _ _ _ (carried-all (rulesOf (a .size .states) (a .size .values) (a .targets .now) (a .costs .now) (a .accepting)) (a .size .start .0) (length (a .kept .now)) (lines (drop (a .from) (a .text .now))) (a .masks .now) (a .limits .now) _ _ (c .before .before .before .before .before .before .before .before .before .before .before .before .before .before .before .before .before .before .take-lines .result) (p .3) (p .4) (c .before .before .before .before .before .before .before .before .before .before .before .before .before .before .before .before .before .before .take-lines .ensures) (c .before .before .before .before .before .before .before .before .before .before .before .before .enum-told .given .1)) (c .before .before .before .before .before .before .show .ensures)
+unfolding top
+returns-2 c = let p = c .before .before .before .before .before .before .before .before .before .before .before .before .before .before .before .before .before .before .before .before .before .before .before .before .pre in
+    let a = c .before .before .before .before .before .before .before .before .before .before .before .before .before .before .before .before .before .before .before .before .before .before .before .before .args in
+    wrote-is _ _ _ _ _ _ (carried-all (rulesOf (a .size .states) (a .size .values) (a .targets .now) (a .costs .now) (a .accepting)) (a .size .start .0) (a .days) (lines (drop (a .from) (a .text .now))) _ _ _ _ (c .before .before .before .before .before .before .before .before .before .before .before .before .before .before .take-lines .result) (first-of (a .days) mostDays (2 ^ a .size .values - 1) _ (p .2) (ap (λ (x : ℕ). replicate mostDays x) (c .before .before .before .before .before .before .before .before .before .before .before .before .before .before .before .before .before .before .before .highest .ensures))) (first-of (a .days) mostDays top _ (p .2) refl) (c .before .before .before .before .before .before .before .before .before .before .before .before .before .before .take-lines .ensures) (c .before .before .before .before .before .before .before .before .enum-told .given .1)) (c .before .before .before .before .show .ensures)
 
 pub carry-out-spec : {M : Type 1} → statement M
 carry-out-spec =
     tie.close
     (tie.spec
+    highest-requires
+    cast-full
+    array-borrow-prefix-mask-room
+    slice-aggregate-masks
+    array-borrow-prefix-limit-room
+    slice-aggregate-limits
     take-lines-requires
     enum-known-taken
     slice-aggregate-put-line
@@ -95,12 +102,6 @@ carry-out-spec =
     enum-told
     show-requires
     same-length
-    same-length-2
-    same-length-3
     returns
-    same-length-4
-    same-length-5
-    same-length-6
-    same-length-7
-    same-length-8
+    same-length-2
     returns-2)

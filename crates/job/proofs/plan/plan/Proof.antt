@@ -1,17 +1,11 @@
-use mathlib.Core.Path.{sym, ap, _∙_}
-use Prim.Native.Nat.{ℕ, _-_, _^_}
+use mathlib.Core.Path.{sym, ap}
 use native.Mathlib.Omega.{arith}
-use lib.ListN.{drop}
 use lib.Seq.{length-take-le}
 use Rattle.meaning.specs.Meaning.{rulesOf}
-use Rattle.job.specs.Input.{mostDays}
 use Rattle.job.specs.Output.{jobLine}
 use Rattle.job.specs.Job.{doneText}
 use Rattle.job.proofs.Showing.{wrote-is}
-use Rattle.job.proofs.Planning.{length-of, days-range, job-empty, job-wrong, job-right}
-use Rattle.job.proofs.Planning.{days-kept, days-lent}
-use Rattle.job.specs.Input.{mostLines, readDecisions}
-use Rattle.text.specs.Lines.{lines}
+use Rattle.job.proofs.Planning.{days-range, job-empty, job-wrong, job-right}
 use borrow.Author.Needs.{needs}
 use Rattle.job.proofs.plan.plan.Statement.{statement}
 use Rattle.job.proofs.plan.plan.Tie as tie
@@ -27,7 +21,7 @@ same-length c = search needs
 
 returns : tie.Need-returns
 unfolding jobLine
-returns c = let a = c .before .before .before .before .before .before .before .before .before .before .before .before .before .before .args in wrote-is _ _ _ _ _ _ (job-empty (rulesOf (a .size .states) (a .size .values) (a .targets .now) (a .costs .now) (a .accepting)) (a .size .start .0) (a .size .values) (a .text .now) (omega arith)) (c .before .before .put-line .ensures)
+returns c = let a = c .before .before .before .before .before .before .before .before .before .before .args in wrote-is _ _ _ _ _ _ (job-empty (rulesOf (a .size .states) (a .size .values) (a .targets .now) (a .costs .now) (a .accepting)) (a .size .start .0) (a .size .values) (a .text .now) (omega arith)) (c .before .before .put-line .ensures)
 
 line-end-requires : tie.Need-line-end-requires
 line-end-requires c κs = search needs
@@ -50,75 +44,23 @@ put-line-requires-2 c κs = search needs
 enum-known-first : tie.Need-enum-known-first
 enum-known-first c = search needs
 
-add-wide : tie.Need-add-wide
-add-wide c = omega (arith, days-range _ _ _ (c .before .before .before .days-line .ensures) (c .before .first .given .1))
-
-mul-wide : tie.Need-mul-wide
-mul-wide c = omega (arith, days-range _ _ _ (c .before .before .before .days-line .ensures) (c .before .first .given .1))
-
-slice-relend-prefix-carry-out : tie.Need-slice-relend-prefix-carry-out
-slice-relend-prefix-carry-out c = omega (arith, length-of mostDays _ _ (c .before .before .before .before .before .before .before .before .before .before .before .before .before .before .before .pre .1), days-range _ _ _ (c .before .before .before .days-line .ensures) (c .before .first .given .1))
-
-slice-aggregate-carry-out : tie.Need-slice-aggregate-carry-out
-slice-aggregate-carry-out c = sym (length-take-le _ _ (omega (arith, length-of mostDays _ _ (c .before .before .before .before .before .before .before .before .before .before .before .before .before .before .before .before .pre .1), days-range _ _ _ (c .before .before .before .before .days-line .ensures) (c .before .before .first .given .1))))
-
-slice-relend-prefix-carry-out-2 : tie.Need-slice-relend-prefix-carry-out-2
-slice-relend-prefix-carry-out-2 c = omega (arith, length-of mostDays _ _ (c .before .before .before .before .before .before .before .before .before .before .before .before .before .before .before .before .pre .2), days-range _ _ _ (c .before .before .before .before .days-line .ensures) (c .before .before .first .given .1))
-
-slice-aggregate-carry-out-2 : tie.Need-slice-aggregate-carry-out-2
-slice-aggregate-carry-out-2 c = sym (length-take-le _ _ (omega (arith, length-of mostDays _ _ (c .before .before .before .before .before .before .before .before .before .before .before .before .before .before .before .before .before .pre .2), days-range _ _ _ (c .before .before .before .before .before .days-line .ensures) (c .before .before .before .first .given .1))))
-
-slice-relend-prefix-carry-out-3 : tie.Need-slice-relend-prefix-carry-out-3
-slice-relend-prefix-carry-out-3 c = omega (arith, c .before .before .before .before .before .before .before .before .before .before .before .before .before .before .before .before .before .pre .3, days-range _ _ _ (c .before .before .before .before .before .days-line .ensures) (c .before .before .before .first .given .1))
-
-slice-aggregate-carry-out-3 : tie.Need-slice-aggregate-carry-out-3
-slice-aggregate-carry-out-3 c = sym (length-take-le _ _ (omega (arith, c .before .before .before .before .before .before .before .before .before .before .before .before .before .before .before .before .before .before .pre .3, days-range _ _ _ (c .before .before .before .before .before .before .days-line .ensures) (c .before .before .before .before .first .given .1))))
-
-slice-relend-prefix-carry-out-4 : tie.Need-slice-relend-prefix-carry-out-4
-slice-relend-prefix-carry-out-4 c = omega (arith, c .before .before .before .before .before .before .before .before .before .before .before .before .before .before .before .before .before .before .pre .4, days-range _ _ _ (c .before .before .before .before .before .before .days-line .ensures) (c .before .before .before .before .first .given .1))
-
-slice-aggregate-carry-out-4 : tie.Need-slice-aggregate-carry-out-4
-slice-aggregate-carry-out-4 c = sym (length-take-le _ _ (omega (arith, c .before .before .before .before .before .before .before .before .before .before .before .before .before .before .before .before .before .before .before .pre .4, days-range _ _ _ (c .before .before .before .before .before .before .before .days-line .ensures) (c .before .before .before .before .before .first .given .1))))
-
 carry-out-requires : tie.Need-carry-out-requires
-carry-out-requires c κs =
-    let p = c .before .before .before .before .before .before .before .before .before .before .before .before .before .before .before .before .before .before .before .before .pre in
-    let a = c .before .before .before .before .before .before .before .before .before .before .before .before .before .before .before .before .before .before .before .before .args in
-    let d = days-lent (c .before .before .before .before .before .before .first .given .0 .0) (2 ^ a .size .values - 1) (a .masks .now) (a .limits .now) (a .kept .now) (a .work .now) (days-range _ _ _ (c .before .before .before .before .before .before .before .before .days-line .ensures) (c .before .before .before .before .before .before .first .given .1)) (p .1) (p .2) (p .3) (p .4) in
-    (p .0, d .0, d .1, d .2, d .3, d .4, c .before .before .before .before .before .before .before .before .before .before .line-end .ensures .inside (omega arith) .high)
+carry-out-requires c κs = let d = days-range _ _ _ (c .before .before .before .before .days-line .ensures) (c .before .before .first .given .1) in (c .before .before .before .before .before .before .before .before .before .before .before .before .pre, d .0, d .1, c .before .before .before .before .before .before .line-end .ensures .inside (omega arith) .high)
 
 same-length-2 : tie.Need-same-length-2
 same-length-2 c = search needs
 
 returns-2 : tie.Need-returns-2
 unfolding jobLine
-returns-2 c = let a = c .before .before .before .before .before .before .before .before .before .before .before .before .before .before .before .before .before .before .before .args in wrote-is _ _ _ _ _ _ (job-wrong (rulesOf (a .size .states) (a .size .values) (a .targets .now) (a .costs .now) (a .accepting)) (a .size .start .0) (a .size .values) (a .text .now) _ (c .before .before .before .before .before .before .before .before .before .line-end .ensures .inside (omega arith)) (c .before .before .before .before .before .before .before .days-line .result) (c .before .before .before .before .before .before .before .days-line .ensures) _ (c .before .before .before .before .before .enum-told .given .1)) (c .before .before .put-line2 .ensures)
+returns-2 c = let a = c .before .before .before .before .before .before .before .before .before .before .before .before .before .before .before .args in wrote-is _ _ _ _ _ _ (job-wrong (rulesOf (a .size .states) (a .size .values) (a .targets .now) (a .costs .now) (a .accepting)) (a .size .start .0) (a .size .values) (a .text .now) _ (c .before .before .before .before .before .before .before .before .before .line-end .ensures .inside (omega arith)) (c .before .before .before .before .before .before .before .days-line .result) (c .before .before .before .before .before .before .before .days-line .ensures) _ (c .before .before .before .before .before .enum-told .given .1)) (c .before .before .put-line2 .ensures)
 
 same-length-3 : tie.Need-same-length-3
 same-length-3 c = search needs
 
-same-length-4 : tie.Need-same-length-4
-same-length-4 c = search needs
-
-same-length-5 : tie.Need-same-length-5
-same-length-5 c = search needs
-
-same-length-6 : tie.Need-same-length-6
-same-length-6 c = search needs
-
-same-length-7 : tie.Need-same-length-7
-same-length-7 c = search needs
-
 returns-3 : tie.Need-returns-3
-returns-3 c =
-    let p = c .before .before .before .before .before .before .before .before .before .before .before .before .before .before .before .before .before .before .before .before .before .before .before .before .before .before .before .before .before .before .before .pre in
-    let a = c .before .before .before .before .before .before .before .before .before .before .before .before .before .before .before .before .before .before .before .before .before .before .before .before .before .before .before .before .before .before .before .args in
+returns-3 c = let a = c .before .before .before .before .before .before .before .before .before .before .before .before .before .before .before .args in
     let r = rulesOf (a .size .states) (a .size .values) (a .targets .now) (a .costs .now) (a .accepting) in
-    wrote-is _ _ _ _ _ _
-    (ap (doneText r (a .size .start .0))
-    (ap (λ (i : ℕ). readDecisions i (a .size .values) 2 mostLines (lines (drop (c .before .before .before .before .before .before .before .before .before .before .before .before .before .before .before .before .before .before .before .before .before .line-end .result) (a .text .now)))) (days-kept (c .before .before .before .before .before .before .before .before .before .before .before .before .before .before .before .before .before .first .given .0 .0) (a .kept .now) (days-range _ _ _ (c .before .before .before .before .before .before .before .before .before .before .before .before .before .before .before .before .before .before .before .days-line .ensures) (c .before .before .before .before .before .before .before .before .before .before .before .before .before .before .before .before .before .first .given .1) .1) (p .3))
-    ∙ job-right r (a .size .start .0) (a .size .values) (a .text .now) (c .before .before .before .before .before .before .before .before .before .before .before .before .before .before .before .before .before .before .before .before .before .line-end .result) (c .before .before .before .before .before .before .before .before .before .before .before .before .before .before .before .before .before .before .before .before .before .line-end .ensures .inside (omega arith)) (c .before .before .before .before .before .before .before .before .before .before .before .before .before .before .before .before .before .before .before .days-line .result) (c .before .before .before .before .before .before .before .before .before .before .before .before .before .before .before .before .before .before .before .days-line .ensures) (c .before .before .before .before .before .before .before .before .before .before .before .before .before .before .before .before .before .first .given .0 .0) (c .before .before .before .before .before .before .before .before .before .before .before .before .before .before .before .before .before .first .given .1)))
-    (c .before .before .before .before .before .before .before .before .before .before .carry-out .ensures)
+    wrote-is _ _ _ _ _ _ (ap (doneText r (a .size .start .0)) (job-right r (a .size .start .0) (a .size .values) (a .text .now) (c .before .before .before .before .before .before .before .before .before .line-end .result) (c .before .before .before .before .before .before .before .before .before .line-end .ensures .inside (omega arith)) (c .before .before .before .before .before .before .before .days-line .result) (c .before .before .before .before .before .before .before .days-line .ensures) (c .before .before .before .before .before .first .given .0 .0) (c .before .before .before .before .before .first .given .1))) (c .before .before .carry-out .ensures)
 
 pub plan-spec : {M : Type 1} → statement M
 plan-spec =
@@ -135,22 +77,8 @@ plan-spec =
     slice-aggregate-put-line-2
     put-line-requires-2
     enum-known-first
-    add-wide
-    mul-wide
-    slice-relend-prefix-carry-out
-    slice-aggregate-carry-out
-    slice-relend-prefix-carry-out-2
-    slice-aggregate-carry-out-2
-    slice-relend-prefix-carry-out-3
-    slice-aggregate-carry-out-3
-    slice-relend-prefix-carry-out-4
-    slice-aggregate-carry-out-4
     carry-out-requires
     same-length-2
     returns-2
     same-length-3
-    same-length-4
-    same-length-5
-    same-length-6
-    same-length-7
     returns-3)

@@ -1,11 +1,30 @@
 use mathlib.Core.Path.{sym, _∙_}
 use native.Mathlib.Omega.{arith}
+use lib.Seq.{length-take-le}
 use Rattle.text.proofs.Putting.{wrote-append}
 use Rattle.job.specs.Output.{leastLine}
 use Rattle.job.proofs.Showing.{passed, shows-kept, shows-none, wrote-is}
 use borrow.Author.Needs.{needs}
 use Rattle.job.proofs.show.show.Statement.{statement}
 use Rattle.job.proofs.show.show.Tie as tie
+
+add-wide : tie.Need-add-wide
+add-wide c = omega (arith, c .before .before .before .before .before .pre .5)
+
+mul-wide : tie.Need-mul-wide
+mul-wide c = omega (arith, c .before .before .before .before .before .pre .5)
+
+array-borrow-prefix-kept-room : tie.Need-array-borrow-prefix-kept-room
+array-borrow-prefix-kept-room c = omega (arith, c .before .before .before .before .before .pre .5)
+
+slice-aggregate-kept : tie.Need-slice-aggregate-kept
+slice-aggregate-kept c = sym (length-take-le _ _ (omega (arith, c .before .before .before .before .before .before .pre .5)))
+
+array-borrow-prefix-work-room : tie.Need-array-borrow-prefix-work-room
+array-borrow-prefix-work-room c = omega (arith, c .before .before .before .before .before .before .pre .5)
+
+slice-aggregate-work : tie.Need-slice-aggregate-work
+slice-aggregate-work c = sym (length-take-le _ _ (omega (arith, c .before .before .before .before .before .before .before .pre .5)))
 
 filter-requires : tie.Need-filter-requires
 filter-requires c κs = search needs
@@ -34,39 +53,31 @@ put-word-requires c κs = search needs
 same-length : tie.Need-same-length
 same-length c = search needs
 
+returns : tie.Need-returns
+unfolding leastLine
+returns c = let p = c .before .before .before .before .before .before .before .before .before .before .before .before .before .before .before .before .before .before .before .before .before .before .before .before .before .pre in
+    let f = c .before .before .before .before .before .before .before .before .before .before .before .before .before .before .before .before .filter .ensures ∙ passed _ _ _ _ _ _ _ _ _ _ _ (p .0) (p .1) (p .2) (p .3) (p .4) (length-take-le _ _ (omega (arith, p .5))) (length-take-le _ _ (omega (arith, p .5))) in
+    wrote-is _ _ _ _ _ _ (shows-kept _ _ _ _ _ _ f (sym (c .before .before .before .before .before .before .before .before .before .before .before .before .number .ensures) ∙ c .before .before .before .before .before .before .before .before .before .before .before .if1 .taken))
+    (wrote-append _ (omega (arith, c .before .before .before .before .before .before .before .before .before .before .before .before .before .before .before .before .before .before .before .before .before .before .before .before .before .good .1 .1 .1 .1 .1 .1 .1 .0)) _ _ _ _ _ _ _ (c .before .before .before .before .before .before .before .before .put-masks .ensures) (c .before .before .put-line .ensures))
+
 same-length-2 : tie.Need-same-length-2
 same-length-2 c = search needs
 
-same-length-3 : tie.Need-same-length-3
-same-length-3 c = search needs
-
-returns : tie.Need-returns
-unfolding leastLine
-returns c =
-    let p = c .before .before .before .before .before .before .before .before .before .before .before .before .before .before .before .before .before .before .before .before .before .before .before .before .before .before .pre in
-    let f = c .before .before .before .before .before .before .before .before .before .before .before .before .before .before .before .before .filter .ensures ∙ passed _ _ _ _ _ _ _ _ _ _ _ (p .0) (p .1) (p .2) (p .3) (p .4) (p .5) (p .6) in
-    wrote-is _ _ _ _ _ _ (shows-kept _ _ _ _ _ _ f (sym (c .before .before .before .before .before .before .before .before .before .before .before .number .ensures) ∙ c .before .before .before .before .before .before .before .before .before .before .if1 .taken))
-    (wrote-append _ (omega (arith, c .before .before .before .before .before .before .before .before .before .before .before .before .before .before .before .before .before .before .before .before .before .before .before .before .before .before .good .1 .1 .1 .1 .1 .1 .1 .1 .1 .0)) _ _ _ _ _ _ _ (c .before .before .before .before .before .before .before .put-masks .ensures) (c .before .before .put-line .ensures))
-
-same-length-4 : tie.Need-same-length-4
-same-length-4 c = search needs
-
-same-length-5 : tie.Need-same-length-5
-same-length-5 c = search needs
-
-same-length-6 : tie.Need-same-length-6
-same-length-6 c = search needs
-
 returns-2 : tie.Need-returns-2
-returns-2 c =
-    let p = c .before .before .before .before .before .before .before .before .before .before .before .before .before .before .before .before .before .before .before .before .before .pre in
-    let f = c .before .before .before .before .before .before .before .before .before .before .before .filter .ensures ∙ passed _ _ _ _ _ _ _ _ _ _ _ (p .0) (p .1) (p .2) (p .3) (p .4) (p .5) (p .6) in
-    wrote-is _ _ _ _ _ _ (shows-none _ _ _ _ _ _ f (λ z. c .before .before .before .before .before .if1 .left (c .before .before .before .before .before .before .number .ensures ∙ z))) (c .before .before .put-word .ensures)
+returns-2 c = let p = c .before .before .before .before .before .before .before .before .before .before .before .before .before .before .before .before .before .before .before .before .pre in
+    let f = c .before .before .before .before .before .before .before .before .before .before .before .filter .ensures ∙ passed _ _ _ _ _ _ _ _ _ _ _ (p .0) (p .1) (p .2) (p .3) (p .4) (length-take-le _ _ (omega (arith, p .5))) (length-take-le _ _ (omega (arith, p .5))) in
+    wrote-is _ _ _ _ _ _ (shows-none _ _ _ _ _ _ f (λ z. c .before .before .before .before .before .before .if1 .left (c .before .before .before .before .before .before .before .number .ensures ∙ z))) (c .before .before .put-word .ensures)
 
 pub show-spec : {M : Type 1} → statement M
 show-spec =
     tie.close
     (tie.spec
+    add-wide
+    mul-wide
+    array-borrow-prefix-kept-room
+    slice-aggregate-kept
+    array-borrow-prefix-work-room
+    slice-aggregate-work
     filter-requires
     number-requires
     put-masks-requires
@@ -76,10 +87,6 @@ show-spec =
     slice-aggregate-put-word
     put-word-requires
     same-length
-    same-length-2
-    same-length-3
     returns
-    same-length-4
-    same-length-5
-    same-length-6
+    same-length-2
     returns-2)
