@@ -3,7 +3,7 @@ ghost use mathlib.Core.Path.{_≡_};
 ghost use Prim.Native.Nat.{_≤_, _<_};
 ghost use lib.ListN.{length};
 ghost use Rattle.meaning.specs.Meaning.{rulesOf, places, rosters};
-ghost use Rattle.meaning.specs.Bounds.{mostStates, mostValues, tableSize, top};
+ghost use Rattle.meaning.specs.Bounds.{top};
 ghost use Rattle.rooms.specs.Tables.{Sizes};
 ghost use Rattle.filter.specs.Inner.{Filters, Finds};
 use crate::alone;

@@ -28,9 +28,9 @@ pub fn ready(
 ) -> Answer
     ensures { λ r. ⌜ readiness (numberOf r) (now (work .exit)) ≡ readyOf (handed places (size .states) (size .values) (size .start .0) (now (targets .entry)) (now (costs .entry)) accepting) (now (memory .entry)) (now (work .entry)) ⌝ }
 {
-    let answer = lent::lent_right(places, size, targets, costs, accepting, memory, work);
-    if answer.number() != 0 {
-        return answer;
+    let checked = lent::lent_right(places, size, targets, costs, accepting, memory, work);
+    if checked.number() != 0 {
+        return checked;
     }
     if !refresh::shown_right(places, size, targets, costs, accepting, memory, work) {
         return Answer::WrongMemory;
