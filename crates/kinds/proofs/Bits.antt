@@ -198,6 +198,17 @@ none-above m k = go (decLt m (2 ^ k))
 pub below-width : (w m k : ℕ) → m < 2 ^ w → w ≤ k → ltb m (2 ^ k) ≡ true
 below-width w m k h l = lt-ltb m (2 ^ k) (lt-of-lt-of-le h (pow-mono l))
 
+-- one more than the largest mask of k values, where a mask has room for w
+pub below-bound : (w m k : ℕ) → m < 2 ^ w → ltb m (2 ^ min k w) ≡ ltb m (2 ^ k)
+below-bound w m k h = go (decLt k w)
+  where
+    go : Dec (k < w) → ltb m (2 ^ min k w) ≡ ltb m (2 ^ k)
+    go (yes l) = let e : min k w ≡ k = omega arith in rw e
+    go (no l) = let e : min k w ≡ w = omega arith in rw e (lt-ltb m (2 ^ w) h ∙ sym (below-width w m k h (omega arith)))
+
+pub bound-most : (w k : ℕ) → (1 ≤ 2 ^ min k w) × (2 ^ min k w ≤ 2 ^ w)
+bound-most w k = (pow-pos (min k w), pow-mono {i = min k w} {j = w} (omega arith))
+
 -- a mask with no bit from k on
 pub mask-cut : (f : ℕ → Bool) (k n : ℕ) → ((u : ℕ) → k ≤ u → f u ≡ false) → maskOf f (k + n) ≡ maskOf f k
 unfolding maskOf

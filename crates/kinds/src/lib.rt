@@ -1,6 +1,7 @@
 // The kinds of number: a state's number, a value's number, and a mask of values.
 ghost use mathlib.Core.Path.{_≡_};
 ghost use mathlib.Core.Bool.{_&&_, _||_};
+ghost use Prim.Native.Nat.{_^_, min};
 ghost use lib.Dec.{eqb, ltb};
 ghost use Rattle.kinds.specs.Bits.{width, bit, maskOf, smallestOf};
 
@@ -19,14 +20,21 @@ impl Mask {
     // A choice of nothing.
     pub const EMPTY: Mask = Mask(0);
 
-    // A choice of everything, where there are `count` values.
-    pub fn full(count: u8) -> Mask
-        ensures { λ r. ⌜ r .0 ≡ maskOf (λ u. ltb u count) width ⌝ }
+    // One more than the largest mask of `values` values; of the width, where they are more.
+    pub fn bound(values: usize) -> u32
+        ensures { λ r. ⌜ r ≡ 2 ^ min values width ⌝ }
     {
-        if Mask::WIDTH <= count {
-            return Mask(u16::MAX);
+        if (Mask::WIDTH as usize) <= values {
+            return 1u32 << Mask::WIDTH;
         }
-        Mask((1u16 << count) - 1)
+        1u32 << values
+    }
+
+    // A choice of everything, where there are `values` values.
+    pub fn full(values: usize) -> Mask
+        ensures { λ r. ⌜ r .0 ≡ maskOf (λ u. ltb u values) width ⌝ }
+    {
+        Mask((Mask::bound(values) - 1) as u16)
     }
 
     // A choice of one value; of nothing, where the mask has no room for it.
@@ -43,6 +51,13 @@ impl Mask {
             return false;
         }
         (self.0 >> v.0) & 1 == 1
+    }
+
+    // Whether every value is one of `values` values.
+    pub fn within(self, values: usize) -> bool
+        ensures { λ r. ⌜ r ≡ ltb (self .0) (2 ^ values) ⌝ }
+    {
+        (self.0 as u32) < Mask::bound(values)
     }
 
     // The values of both.

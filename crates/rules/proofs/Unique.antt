@@ -2,9 +2,10 @@
 use mathlib.Core.Path.{_≡_, refl, sym, ap, ap₂, _∙_}
 use mathlib.Core.Bool.{Bool, true}
 use mathlib.Core.List.{List, [], _∷_}
-use Prim.Native.Nat.{ℕ, _^_, min}
-use lib.Dec.{ltb}
+use Prim.Native.Nat.{ℕ, _+_, _*_, min}
 use lib.ListN.{getD}
+use Rattle.kinds.specs.declared.State.{State}
+use Rattle.kinds.specs.declared.Value.{Value}
 use Rattle.rules.specs.Report.{Outcome, outcome, reportChecks, reportOf}
 use Rattle.rules.specs.Checks.{Handed, sizeRight, sizesRight, tablesLong, rulesRight, masksRight}
 use Rattle.rules.specs.Answers.{numberOf, zeros, order, inOrder}
@@ -71,8 +72,9 @@ rules-right-unique q v s t c f a b = test-unique
 pub masks-right-unique : (v : ℕ) (ms : List ℕ) (a b : Bool) → a ≡ masksRight v ms → b ≡ masksRight v ms → a ≡ b
 masks-right-unique v ms a b = test-unique
 
-pub mask-right-unique : (v m : ℕ) (a b : Bool) → a ≡ ltb m (2 ^ v) → b ≡ ltb m (2 ^ v) → a ≡ b
-mask-right-unique v m a b = test-unique
+-- tables
+pub arc-at-unique : (q : State) (v : Value) (values r s : ℕ) → r ≡ q .0 * values + v .0 → s ≡ q .0 * values + v .0 → r ≡ s
+arc-at-unique q v values r s e f = e ∙ sym f
 
 -- numbers
 pub lesser-unique : (a b r s : ℕ) → r ≡ min a b → s ≡ min a b → r ≡ s

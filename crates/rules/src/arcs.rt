@@ -1,11 +1,20 @@
-// The rule tables: the check of answer 3.
+// The rule tables: where an arc stands in them, and the check of answer 3.
 ghost use mathlib.Core.Path.{_≡_};
-ghost use Prim.Native.Nat.{_*_, _^_, _≤_, _<_};
+ghost use Prim.Native.Nat.{_+_, _*_, _^_, _≤_, _<_};
 ghost use lib.ListN.{length};
 ghost use lib.Dec.{ltb};
 ghost use Rattle.meaning.specs.Bounds.{mostStates, mostValues, tableSize};
 ghost use Rattle.rules.specs.Checks.{arcRight, tablesRight};
 use crate::bounds;
+use kinds::State;
+use kinds::Value;
+
+// Where the arc of a state on a value stands in a rule table of `values` values: a row for each state.
+pub fn arc_at(q: State, v: Value, values: u8) -> usize
+    ensures { λ r. ⌜ r ≡ q .0 * values + v .0 ⌝ }
+{
+    (q.0 as usize) * (values as usize) + (v.0 as usize)
+}
 
 // Whether one arc is lawful: missing at no cost, or to a state at a cost in range.
 pub(crate) fn arc_right(states: usize, target: u8, cost: u16) -> bool

@@ -4,12 +4,12 @@ ghost use Rattle.rules.specs.Report.{outcome, reportOf};
 ghost use Rattle.rules.specs.Checks.{handed, sizeRight, sizesRight, tablesLong, rulesRight, masksRight};
 ghost use Rattle.rules.specs.Answers.{numberOf};
 
-mod arcs;
+pub mod arcs;
 pub mod bounds;
-pub mod choices;
 pub mod numbers;
 mod steps;
 
+use kinds::Mask;
 use kinds::State;
 
 // The answers of the calls, with the paper's numbers.
@@ -129,7 +129,7 @@ pub fn masks_right(values: usize, masks: &[u16]) -> bool
 {
     let mut i: usize = 0;
     while i < masks.len() {
-        if !choices::mask_right(values, masks[i]) {
+        if !Mask(masks[i]).within(values) {
             return false;
         }
         i += 1;

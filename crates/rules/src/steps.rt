@@ -5,6 +5,7 @@ ghost use Prim.Native.Nat.{_+_, _*_, _≤_, _<_};
 ghost use lib.ListN.{length, getD};
 ghost use Rattle.meaning.specs.Bounds.{mostStates, mostValues, tableSize};
 ghost use Rattle.rules.specs.Report.{valuesRight, Steps};
+use crate::arcs::arc_at;
 use kinds::State;
 use kinds::Value;
 
@@ -27,7 +28,7 @@ pub(crate) fn target_of(values: usize, targets: &[u8], q: State, v: Value) -> u8
     requires { ⌜ (values ≤ mostValues) × (length (now targets) ≡ tableSize) × (q .0 < mostStates) × (v .0 < values) ⌝ }
     ensures { λ r. ⌜ r ≡ getD (now (targets .entry)) (q .0 * values + v .0) 0 ⌝ }
 {
-    targets[(q.0 as usize) * values + (v.0 as usize)]
+    targets[arc_at(q, v, values as u8)]
 }
 
 // The steps that the roster makes before the first missing arc.
@@ -41,14 +42,14 @@ pub(crate) fn steps_made(
     requires { ⌜ (states ≤ mostStates) × (values ≤ mostValues) × (length (now targets) ≡ tableSize) × (start .0 < states) × (valuesRight values (now roster) ≡ true) ⌝ }
     ensures { λ r. ⌜ Steps states values (now (targets .entry)) (start .0) (now (roster .entry)) r ⌝ }
 {
-    let mut q = start.0;
+    let mut q = start;
     let mut i: usize = 0;
     while i < roster.len() {
-        let next = target_of(values, targets, State(q), Value(roster[i]));
+        let next = target_of(values, targets, q, Value(roster[i]));
         if states <= (next as usize) {
             return i;
         }
-        q = next;
+        q = State(next);
         i += 1;
     }
     i

@@ -11,10 +11,10 @@ mod asks;
 mod entries;
 mod opening;
 
+use kinds::Mask;
 use machine::layout;
 use rules::Answer;
 use rules::Size;
-use rules::choices::mask_right;
 use rules::numbers::clear;
 
 // Opens a session in memory of any content.
@@ -79,7 +79,7 @@ pub fn keep(
     if places <= place {
         return Answer::OutOfRange;
     }
-    if !mask_right(size.values, mask) {
+    if !Mask(mask).within(size.values) {
         return Answer::OutOfRange;
     }
     asks::decide(

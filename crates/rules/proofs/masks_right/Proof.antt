@@ -18,18 +18,18 @@ abbrev μ-loop : tie.MeasureT-loop
 loop-holds : tie.Need-loop-holds Inv-loop μ-loop
 loop-holds c = (omega arith, refl)
 
-mul-mask-right : tie.Need-mul-mask-right Inv-loop μ-loop
-mul-mask-right c = omega arith
+mul-t4 : tie.Need-mul-t4 Inv-loop μ-loop
+mul-t4 c = omega arith
 
-shared-slice-read-mask-right : tie.Need-shared-slice-read-mask-right Inv-loop μ-loop
-shared-slice-read-mask-right c = omega arith
+shared-slice-read-t7 : tie.Need-shared-slice-read-t7 Inv-loop μ-loop
+shared-slice-read-t7 c = omega arith
 
-mask-right-requires : tie.Need-mask-right-requires Inv-loop μ-loop
-mask-right-requires c κs = search needs
+within-requires : tie.Need-within-requires Inv-loop μ-loop
+within-requires c κs = search needs
 
 returns : tie.Need-returns Inv-loop μ-loop
 unfolding masksRight
-returns c = sym (c .before .before .before .before .loop .inv .1 ∙ all-fails _ _ _ (c .before .before .before .loop-test .taken) (sym (c .before .mask-right .ensures) ∙ not-true _ (c .if1 .taken)))
+returns c = sym (c .before .before .before .before .loop .inv .1 ∙ all-fails _ _ _ (c .before .before .before .loop-test .taken) (sym (c .before .within .ensures) ∙ not-true _ (c .if1 .taken)))
 
 add-i : tie.Need-add-i Inv-loop μ-loop
 add-i c = omega arith
@@ -39,7 +39,7 @@ loop-less c = omega arith
 
 loop-again : tie.Need-loop-again Inv-loop μ-loop
 unfolding masksRight
-loop-again c = (omega arith, c .before .before .before .before .loop .inv .1 ∙ all-more _ _ _ (c .before .before .before .loop-test .taken) (sym (c .before .mask-right .ensures) ∙ not-false _ (c .if1 .left)))
+loop-again c = (omega arith, c .before .before .before .before .loop .inv .1 ∙ all-more _ _ _ (c .before .before .before .loop-test .taken) (sym (c .before .within .ensures) ∙ not-false _ (c .if1 .left)))
 
 returns-2 : tie.Need-returns-2 Inv-loop μ-loop
 unfolding masksRight
@@ -52,9 +52,9 @@ masks-right-spec =
     Inv-loop
     μ-loop
     loop-holds
-    mul-mask-right
-    shared-slice-read-mask-right
-    mask-right-requires
+    mul-t4
+    shared-slice-read-t7
+    within-requires
     returns
     add-i
     loop-less

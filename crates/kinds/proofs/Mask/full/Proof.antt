@@ -1,23 +1,22 @@
+use native.Mathlib.Omega.{arith}
+use Rattle.kinds.proofs.Bits.{ones-mask, bound-most}
 use mathlib.Core.Path.{ap, _∙_}
 use Prim.Native.Nat.{ℕ, _-_}
-use native.Mathlib.Omega.{arith}
-use lib.Pow.{pow-pos}
-use Rattle.kinds.proofs.Bits.{shl-one, ones-mask}
 use borrow.Author.Needs.{needs}
 use Rattle.kinds.proofs.Mask.full.Statement.{statement}
 use Rattle.kinds.proofs.Mask.full.Tie as tie
 
+bound-requires : tie.Need-bound-requires
+bound-requires c κs = search needs
+
+sub-t3 : tie.Need-sub-t3
+sub-t3 c = omega (arith, bound-most 16 (c .before .args .values))
+
+cast-t4 : tie.Need-cast-t4
+cast-t4 c = omega (arith, bound-most 16 (c .before .args .values))
+
 returns : tie.Need-returns
-returns c = ones-mask 16 16 _ (omega arith)
-
-shl-t4 : tie.Need-shl-t4
-shl-t4 c = search needs
-
-sub-t5 : tie.Need-sub-t5
-sub-t5 c = omega (arith, shl-one 16 (c .before .args .count) (omega arith), pow-pos (c .before .args .count))
-
-returns-2 : tie.Need-returns-2
-returns-2 c = ap (λ (x : ℕ). x - 1) (shl-one 16 _ (omega arith)) ∙ ones-mask 16 _ _ (omega arith)
+returns c = ap (λ (x : ℕ). x - 1) (c .bound .ensures) ∙ ones-mask 16 _ _ (omega arith)
 
 pub full-spec : {M : Type 1} → statement M
-full-spec = tie.close (tie.spec returns shl-t4 sub-t5 returns-2)
+full-spec = tie.close (tie.spec bound-requires sub-t3 cast-t4 returns)

@@ -11,7 +11,7 @@ use Rattle.rules.proofs.steps.steps_made.Statement.{statement}
 use Rattle.rules.proofs.steps.steps_made.Tie as tie
 
 abbrev Inv-loop : tie.InvT-loop
-Inv-loop states values targets roster q₀ i₀ q i = (i ≤ length roster) × (q < states) × ((c : List ℕ) → steps (arcsOf states values targets c) q₀ roster ≡ i + steps (arcsOf states values targets c) q (drop i roster))
+Inv-loop states values targets roster q₀ i₀ q i = (i ≤ length roster) × (q .0 < states) × ((c : List ℕ) → steps (arcsOf states values targets c) (q₀ .0) roster ≡ i + steps (arcsOf states values targets c) (q .0) (drop i roster))
 
 abbrev μ-loop : tie.MeasureT-loop
 μ-loop states values targets roster q₀ i₀ q i = length roster - i
@@ -19,8 +19,8 @@ abbrev μ-loop : tie.MeasureT-loop
 loop-holds : tie.Need-loop-holds Inv-loop μ-loop
 loop-holds c = (omega arith, c .before .before .pre .3, λ _. sym (zero-add _))
 
-shared-slice-read-t13 : tie.Need-shared-slice-read-t13 Inv-loop μ-loop
-shared-slice-read-t13 c = omega arith
+shared-slice-read-t12 : tie.Need-shared-slice-read-t12 Inv-loop μ-loop
+shared-slice-read-t12 c = omega arith
 
 target-of-requires : tie.Need-target-of-requires Inv-loop μ-loop
 target-of-requires c κs = (c .before .before .before .before .before .pre .1, c .before .before .before .before .before .pre .2, omega arith, value-below _ _ _ (c .before .before .before .before .before .pre .4) (c .before .loop-test .taken))
@@ -50,7 +50,7 @@ steps-made-spec =
     Inv-loop
     μ-loop
     loop-holds
-    shared-slice-read-t13
+    shared-slice-read-t12
     target-of-requires
     cast-if1
     returns
