@@ -1,7 +1,7 @@
 use native.Mathlib.Omega.{arith}
 use Rattle.kinds.proofs.Bits.{ones-mask, bound-most}
-use mathlib.Core.Path.{ap, _∙_}
-use Prim.Native.Nat.{ℕ, _-_}
+use mathlib.Core.Path.{refl, ap, _∙_}
+use Prim.Native.Nat.{ℕ, _-_, min}
 use borrow.Author.Needs.{needs}
 use Rattle.kinds.proofs.Mask.full.Statement.{statement}
 use Rattle.kinds.proofs.Mask.full.Tie as tie
@@ -16,7 +16,7 @@ cast-t4 : tie.Need-cast-t4
 cast-t4 c = omega (arith, bound-most 16 (c .before .args .values))
 
 returns : tie.Need-returns
-returns c = ap (λ (x : ℕ). x - 1) (c .bound .ensures) ∙ ones-mask 16 _ _ (omega arith)
+returns c = ap (λ (x : ℕ). x - 1) (c .bound .ensures) ∙ ones-mask 16 (min (c .before .args .values) 16) (c .before .args .values) refl
 
 pub full-spec : {M : Type 1} → statement M
 full-spec = tie.close (tie.spec bound-requires sub-t3 cast-t4 returns)
