@@ -1,5 +1,10 @@
-/* driver SHEET N CALLS: reads a sheet, filters N places CALLS times with full masks and limits that do not bind, and prints a checksum of
-   the kept masks and the least cost. FILT is the filter under test, with the signature of peers/filt.h. */
+/* driver SHEET N INPUT CALLS: reads a sheet, filters N places CALLS times, and prints a checksum of the kept masks and the least cost.
+   FILT is the filter under test, with the signature of peers/filt.h. INPUT says what it is lent:
+     full     full masks, limits that do not bind
+     half     each value with odds of one half, the values of one accepted roster always
+     bind     full masks; each limit is what a cheapest roster has spent by then, and 300 more (on W, whose costs are 0 to 2, 2 more)
+     both     half's masks and limits made likewise
+     eighth   at one place in eight one value alone, that of an accepted roster; else full masks */
 #include "peers/filt.h"
 #include <stdio.h>
 #include <stdlib.h>
@@ -7,9 +12,19 @@
 
 int FILT(const rules_t *, uint32_t, const uint16_t *, const uint32_t *, uint16_t *, uint32_t *, uint32_t *);
 
-static uint32_t work[367 * 64], limits[366];
-static uint16_t masks[366], kept[366];
+enum { PLACES = 366, STATES = 64, NONE = 1000000 };
+
+static uint32_t work[(PLACES + 1) * STATES], limits[PLACES], dear[PLACES + 1][STATES];
+static uint16_t masks[PLACES], kept[PLACES];
+static uint8_t roster[PLACES];
 static rules_t rules;
+static uint32_t seed = 20261115;
+
+static uint32_t drawn(uint32_t below) /* the same numbers on every machine */
+{
+    seed = seed * 1664525u + 1013904223u;
+    return (seed >> 8) % below;
+}
 
 static int read_sheet(const char *path)
 {
@@ -34,13 +49,70 @@ static int read_sheet(const char *path)
     return 1;
 }
 
+/* What the rest of a roster costs at the least from each state before each place, within the masks. */
+static void price(uint32_t n)
+{
+    for (uint32_t q = 0; q < rules.Q; q++) dear[n][q] = rules.acc >> q & 1 ? 0 : NONE;
+    for (uint32_t i = n; i-- > 0;)
+        for (uint32_t q = 0; q < rules.Q; q++) {
+            dear[i][q] = NONE;
+            for (uint32_t v = 0; v < rules.V; v++) {
+                uint32_t arc = q * rules.V + v;
+                if (!(masks[i] >> v & 1) || rules.target[arc] == 255) continue;
+                uint32_t all = rules.cost[arc] + dear[i + 1][rules.target[arc]];
+                if (all < dear[i][q]) dear[i][q] = all;
+            }
+        }
+}
+
+/* A roster within the masks: a cheapest one, or one that takes any value that leaves a way to the end. Gives what it spends place by place. */
+static void draw(uint32_t n, int cheapest, uint32_t *spent)
+{
+    uint32_t q = rules.start, cost = 0;
+    price(n);
+    if (dear[0][q] >= NONE) exit(3);
+    for (uint32_t i = 0; i < n; i++) {
+        uint32_t v = cheapest ? 0 : drawn(rules.V);
+        for (;; v = (v + 1) % rules.V) {
+            uint32_t arc = q * rules.V + v;
+            if (!(masks[i] >> v & 1) || rules.target[arc] == 255) continue;
+            uint32_t rest = dear[i + 1][rules.target[arc]];
+            if (rest < NONE && (!cheapest || rules.cost[arc] + rest == dear[i][q])) break;
+        }
+        roster[i] = v;
+        cost += rules.cost[q * rules.V + v];
+        q = rules.target[q * rules.V + v];
+        spent[i] = cost;
+    }
+}
+
+static int make_input(uint32_t n, const char *input)
+{
+    int halved = !strcmp(input, "half") || !strcmp(input, "both"), bound = !strcmp(input, "bind") || !strcmp(input, "both");
+    int eighth = !strcmp(input, "eighth");
+    static uint32_t spent[PLACES];
+    for (uint32_t i = 0; i < n; i++) { limits[i] = 366000; masks[i] = (1u << rules.V) - 1; }
+    if (halved || eighth) {
+        draw(n, 0, spent);
+        for (uint32_t i = 0; i < n; i++) {
+            if (halved) masks[i] = drawn(1u << rules.V) | 1u << roster[i];
+            if (eighth && i % 8 == 3) masks[i] = 1u << roster[i];
+        }
+    }
+    if (bound) {
+        draw(n, 1, spent);
+        for (uint32_t i = 0; i < n; i++) limits[i] = spent[i] + (rules.Q == 6 ? 2 : 300);
+    }
+    return halved || bound || eighth || !strcmp(input, "full");
+}
+
 int main(int argc, char **argv)
 {
-    if (argc != 4 || !read_sheet(argv[1])) return 2;
+    if (argc != 5 || !read_sheet(argv[1])) return 2;
     uint32_t n = atoi(argv[2]), least = 0;
     uint64_t sum = 0;
-    for (uint32_t i = 0; i < n; i++) { limits[i] = 366000; masks[i] = (1u << rules.V) - 1; }
-    for (int call = 0; call < atoi(argv[3]); call++) {
+    if (n < 1 || n > PLACES || !make_input(n, argv[3])) return 2;
+    for (int call = 0; call < atoi(argv[4]); call++) {
         FILT(&rules, n, masks, limits, kept, &least, work);
         sum += least;
         for (uint32_t i = 0; i < n; i++) sum = sum * 31 + kept[i];

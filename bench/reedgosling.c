@@ -1,9 +1,22 @@
-/* The proved filter behind the peers' signature. */
+/* The proved filter and the proved first roster behind the peers' signature. */
 #include "peers/filt.h"
 #include "reedgosling.h"
 
+#define RULES(r) (r)->Q, (r)->V, (r)->start, (r)->target, REEDGOSLING_TABLE_SIZE, (r)->cost, REEDGOSLING_TABLE_SIZE, (r)->acc
+
 int proved(const rules_t *r, uint32_t n, const uint16_t *masks, const uint32_t *limits, uint16_t *kept, uint32_t *least, uint32_t *work)
 {
-    return reedgosling_filter(n, r->Q, r->V, r->start, r->target, REEDGOSLING_TABLE_SIZE, r->cost, REEDGOSLING_TABLE_SIZE, r->acc,
-        masks, n, limits, n, kept, n, work, REEDGOSLING_WORK_LENGTH(n), least);
+    return reedgosling_filter(n, RULES(r), masks, n, limits, n, kept, n, work, REEDGOSLING_WORK_LENGTH(n), least);
+}
+
+/* The first roster that has the last place's first value that any has there. Its values stand in kept, and least is not worked out. */
+int first(const rules_t *r, uint32_t n, const uint16_t *masks, const uint32_t *limits, uint16_t *kept, uint32_t *least, uint32_t *work)
+{
+    static uint8_t roster[REEDGOSLING_MOST_PLACES];
+    uint32_t answer = REEDGOSLING_NO_ROSTER;
+    for (uint8_t v = 0; v < r->V && answer == REEDGOSLING_NO_ROSTER; v++)
+        answer = reedgosling_first_roster(n, RULES(r), masks, n, limits, n, n - 1, v, roster, n, work, REEDGOSLING_WORK_LENGTH(n));
+    for (uint32_t i = 0; i < n; i++) kept[i] = roster[i];
+    *least = 0;
+    return answer;
 }
