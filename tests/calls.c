@@ -92,7 +92,7 @@ static void set_entry(struct slice *s, uint64_t place, uint64_t number)
 static uint64_t checksum(const struct slice *s)
 {
     uint64_t sum = 0;
-    for (size_t i = 0; i < s->length; i++) sum = (sum * 65599 + entry(s, i)) % 4294967291u;
+    for (size_t i = 0; i < s->length; i++) sum = (sum * 65599 + entry(s, i)) % 140737488355213u;
     return sum;
 }
 

@@ -100,15 +100,26 @@ impl Script {
         self.add(text.into_bytes(), format!("show{fields}"), None);
     }
 
+    /// Sets so many entries of a slice to one number, as far as it has room.
+    pub fn fill(&mut self, slice: Slice, place: usize, count: usize, number: u32) {
+        self.bench.fill(slice, place, count, number);
+        let line = format!("fill\t{}\t{place}\t{count}\t{number}\n", slice.name());
+        self.case().text.extend(line.into_bytes());
+    }
+
     /// A line that is none of the format's.
     pub fn unknown(&mut self, line: &str) {
         self.add(format!("{line}\n").into_bytes(), "unknown".to_owned(), None);
     }
 
     fn add(&mut self, text: Vec<u8>, line: String, call: Option<(&'static str, CameTo)>) {
-        let case = self.cases.last_mut().expect("a case was begun");
+        let case = self.case();
         case.text.extend(text);
         case.printed.push(Printed { line, call, end: case.text.len() });
+    }
+
+    fn case(&mut self) -> &mut Case {
+        self.cases.last_mut().expect("a case was begun")
     }
 }
 

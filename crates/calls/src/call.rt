@@ -57,7 +57,7 @@ fn make(word: usize, line: &[u8], memory: &mut [u64]) {
 
 // Carries out the call that a line asks for, and prints its line.
 pub(crate) fn call_line(word: usize, line: &[u8], memory: &mut [u64]) {
-    let mut before = [0u32; cells::SLICES];
+    let mut before = [0u64; cells::SLICES];
     sum_all(memory, &mut before);
     tell_field(line, 0);
     make(word, line, memory);

@@ -153,7 +153,11 @@ fn put_field(memory: &mut [u64], slice: usize, place: usize, line: &[u8], at: us
     }
     let number = number_at(line, at);
     set(memory, slice, place, number.value);
-    std::num::wrapping_add_usize(place, 1)
+    if place == usize::MAX {
+        place
+    } else {
+        place + 1
+    }
 }
 
 // Sets the entries from a place on to the numbers of a line's fields, from the field at `at` on.
@@ -166,17 +170,18 @@ pub(crate) fn put(memory: &mut [u64], slice: usize, first: usize, line: &[u8], a
     }
 }
 
-// Sets a run of entries to one number.
+// Sets a run of entries to one number, as far as the slice has room: a count may be as large as a number can be.
 pub(crate) fn fill(memory: &mut [u64], slice: usize, place: usize, count: usize, number: u64) {
-    let mut k: usize = 0;
-    while k < count {
-        set(
-            memory,
-            slice,
-            std::num::wrapping_add_usize(place, k),
-            number,
-        );
-        k += 1;
+    let room = room_of(slice);
+    let mut at = place;
+    let mut left = count;
+    while at < room {
+        if left == 0 {
+            return;
+        }
+        set(memory, slice, at, number);
+        at += 1;
+        left -= 1;
     }
 }
 

@@ -5,12 +5,15 @@ use crate::script::field_end;
 use libc::STDOUT_FILENO;
 use rules::Answer;
 
+// The modulus of the checksum: the largest prime below 2^47, so that no two entries count alike and no sum wraps.
+const MODULUS: u64 = 140737488355213;
+
 // The content of a slice of at most so many entries is printed as it is.
 const SHORT: usize = 16;
 
 // A checksum of entries, and whether all of them are zeros.
 struct Sum {
-    sum: u32,
+    sum: u64,
     zeros: bool,
 }
 
@@ -48,13 +51,13 @@ fn tell_name(slice: usize) {
 }
 
 // The checksum with one more entry.
-fn mixed(sum: u32, entry: u64) -> u32 {
-    ((sum as u64 * 65599 + entry % 4294967296) % 4294967291) as u32
+fn mixed(sum: u64, entry: u64) -> u64 {
+    (sum % MODULUS * 65599 + entry % 4294967296) % MODULUS
 }
 
 fn sum_of(memory: &[u64], slice: usize) -> Sum {
     let length = length_of(memory, slice);
-    let mut sum: u32 = 0;
+    let mut sum: u64 = 0;
     let mut zeros = true;
     let mut k: usize = 0;
     while k < length {
@@ -69,7 +72,7 @@ fn sum_of(memory: &[u64], slice: usize) -> Sum {
 }
 
 // The checksum of each slice.
-pub(crate) fn sum_all(memory: &[u64], sums: &mut [u32]) {
+pub(crate) fn sum_all(memory: &[u64], sums: &mut [u64]) {
     let mut slice: usize = 0;
     while slice < sums.len() {
         let summed = sum_of(memory, slice);
@@ -78,17 +81,23 @@ pub(crate) fn sum_all(memory: &[u64], sums: &mut [u32]) {
     }
 }
 
-// Entries as they are.
-fn tell_entries(memory: &[u64], slice: usize, first: usize, end: usize) {
-    let mut k = first;
-    while k < end {
-        tell_number(entry(memory, slice, k));
-        k += 1;
+// So many entries from a place on, as they are and as far as the slice goes.
+fn tell_entries(memory: &[u64], slice: usize, place: usize, count: usize) {
+    let length = length_of(memory, slice);
+    let mut at = place;
+    let mut left = count;
+    while at < length {
+        if left == 0 {
+            return;
+        }
+        tell_number(entry(memory, slice, at));
+        at += 1;
+        left -= 1;
     }
 }
 
 // A slice's name and content, if it has changed.
-fn tell_change(memory: &[u64], slice: usize, before: u32) {
+fn tell_change(memory: &[u64], slice: usize, before: u64) {
     let summed = sum_of(memory, slice);
     if summed.sum == before {
         return;
@@ -101,12 +110,12 @@ fn tell_change(memory: &[u64], slice: usize, before: u32) {
         tell_word(b"\tzeros");
     } else {
         tell_word(b"\tsum");
-        tell_number(summed.sum as u64);
+        tell_number(summed.sum);
     }
 }
 
 // The end of a call's line: each slice whose checksum is another than before.
-pub(crate) fn tell_changes(memory: &[u64], before: &[u32]) {
+pub(crate) fn tell_changes(memory: &[u64], before: &[u64]) {
     let mut slice: usize = 0;
     while slice < before.len() {
         tell_change(memory, slice, before[slice]);
@@ -117,14 +126,7 @@ pub(crate) fn tell_changes(memory: &[u64], before: &[u32]) {
 
 // A line with a run of a slice's entries, as far as the slice goes.
 pub(crate) fn show(memory: &[u64], slice: usize, place: usize, count: usize) {
-    let length = length_of(memory, slice);
-    let end = std::num::wrapping_add_usize(place, count);
     tell_word(b"show");
-    tell_entries(
-        memory,
-        slice,
-        place,
-        if end < length { end } else { length },
-    );
+    tell_entries(memory, slice, place, count);
     tell_word(b"\n");
 }

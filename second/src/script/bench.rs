@@ -56,6 +56,12 @@ impl Bench {
         format!("size\t{places}\t{states}\t{values}\t{start}\t{accepting}\n")
     }
 
+    /// Sets a run of a slice's entries, as far as there is room.
+    pub fn fill(&mut self, slice: Slice, place: usize, count: usize, number: u32) {
+        let entries = &mut self.rooms[slice as usize].entries;
+        entries.iter_mut().skip(place).take(count).for_each(|entry| *entry = number);
+    }
+
     /// Takes over what a call has left in the slices that it was lent.
     pub fn take_over(&mut self, left: &Lent, call: Call) {
         for slice in call.uses() {

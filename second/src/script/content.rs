@@ -2,7 +2,7 @@
 
 /// The checksum of docs/CALLS.md.
 pub fn checksum(entries: &[u32]) -> u64 {
-    entries.iter().fold(0, |sum, entry| (sum * 65_599 + u64::from(*entry)) % 4_294_967_291)
+    entries.iter().fold(0, |sum, entry| (sum * 65_599 + u64::from(*entry)) % 140_737_488_355_213)
 }
 
 /// The content of a slice as the fields of a line: its numbers if they are at most 16.
@@ -25,10 +25,12 @@ mod tests {
         assert_eq!(checksum(&[]), 0);
         assert_eq!(checksum(&[7]), 7);
         assert_eq!(checksum(&[7, 5]), 7 * 65_599 + 5);
-        // 459,198 × 65,599 + 4,294,967,295, less the modulus 8 times.
-        assert_eq!(checksum(&[7, 5, u32::MAX]), 58_158_569);
-        // An entry that equals the modulus counts like 0.
-        assert_eq!(checksum(&[1, 4_294_967_291]), checksum(&[1, 0]));
+        // 459,198 × 65,599 + 4,294,967,295, which is below the modulus.
+        assert_eq!(checksum(&[7, 5, u32::MAX]), 34_417_896_897);
+        // 34,417,896,897 × 65,599 + 1, less the modulus 16 times.
+        assert_eq!(checksum(&[7, 5, u32::MAX, 1]), 5_979_804_862_896);
+        // No two entries of 32 bits count alike.
+        assert_ne!(checksum(&[1, u32::MAX]), checksum(&[1, 4]));
     }
 
     #[test]

@@ -56,7 +56,8 @@ impl Interpreter {
             "length" => self.lengths[slice(fields[1])] = numbers[2] as usize,
             "put" => self.put(slice(fields[1]), numbers[2], &numbers[3..]),
             "fill" => {
-                let entries = vec![numbers[4]; numbers[3] as usize];
+                let room = SLICES[slice(fields[1])].2 as u64;
+                let entries = vec![numbers[4]; numbers[3].min(room) as usize];
                 self.put(slice(fields[1]), numbers[2], &entries);
             }
             "bytes" => {

@@ -71,8 +71,8 @@ pub fn sheet(script: &mut Script) {
     script.show(Slice::Output, 0, W.len() + 3);
 }
 
-/// What docs/CALLS.md says of the lines themselves: unknown ones, entries shown past a slice's
-/// length, and numbers that lose their upper bits when they are handed over.
+/// What docs/CALLS.md says of the lines themselves: unknown ones, entries shown or set past a
+/// slice's end, and numbers that lose their upper bits when they are handed over.
 pub fn lines(script: &mut Script) {
     script.begin("the lines of a script");
     for line in ["", "nothing", "filters", "Filter", "filter "] {
@@ -83,6 +83,10 @@ pub fn lines(script: &mut Script) {
     script.show(Slice::Kept, 1, 9);
     script.show(Slice::Kept, 3, 1);
     script.show(Slice::Kept, usize::MAX, usize::MAX);
+    script.show(Slice::Kept, 1, usize::MAX);
+    script.fill(Slice::Kept, 1, usize::MAX, 9);
+    script.fill(Slice::Kept, usize::MAX, 3, 8);
+    script.show(Slice::Kept, 0, 4);
     script.call_as("first\t1\t257", &mut lent, Call::First { place: 1, value: 1 });
     script.call(&mut lent, Call::Open);
     script.call_as("keep\t1\t65537", &mut lent, keep(1, 1));
