@@ -56,12 +56,15 @@ extern "C" {
 #define REEDGOSLING_LONGEST_OUTPUT 2048
 
 /* The answers. A call makes its checks in the order 1, 2, 3, 4, 5, 12, 7, 8, 9, 10, 6, 11 and skips those that do not concern it; the first
-   that fails is the answer. All but 0 and 11 are refusals. Every number that a call writes through a pointer to one number is 0 under a
-   refusal or 11, save the line under 5. A work table is all zeros afterwards, except under 1 and 2, which leave it unchanged. */
+   that fails is the answer. All but 0 and 11 are refusals.
+   What an answer leaves unchanged are slices: under 1 and 2 every slice, under the other refusals those named below. The work table is a
+   slice too, but no output: it is all zeros after every answer but 1 and 2.
+   A single number that a call gives back through a pointer without a length (least, report, line, states, values, start, accepting, length) is
+   written under every answer: under a refusal or 11 it is 0, save the line under 5. */
 enum reedgosling_answer {
     REEDGOSLING_DONE = 0,            /* done */
-    REEDGOSLING_WRONG_SIZE = 1,      /* n, Q or V outside its range, or start not below Q: nothing changed */
-    REEDGOSLING_WRONG_LENGTH = 2,    /* a lent slice has another length than stated: nothing changed */
+    REEDGOSLING_WRONG_SIZE = 1,      /* n, Q or V outside its range, or start not below Q: no slice changed */
+    REEDGOSLING_WRONG_LENGTH = 2,    /* a lent slice has another length than stated: no slice changed */
     REEDGOSLING_WRONG_TABLES = 3,    /* a target neither 255 nor below Q, a cost over 1,000, a cost at a missing arc, or an accepting bit at
                                         or above Q: outputs unchanged */
     REEDGOSLING_WRONG_MASK = 4,      /* a choice mask has a bit at or above V: outputs unchanged */
