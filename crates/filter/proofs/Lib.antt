@@ -2,3 +2,4 @@ pub mod Both
 pub mod Answering
 pub mod Narrowing
 pub mod Unique
+pub mod Alike

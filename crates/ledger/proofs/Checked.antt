@@ -10,16 +10,11 @@ use borrow.Author.Tests.{eqb-true, ltb-true}
 use Rattle.meaning.specs.Bounds.{workSize}
 use Rattle.rules.specs.Checks.{Handed, tablesLong}
 use Rattle.rules.specs.Answers.{Check, check, decided, workAfter}
-use Rattle.rules.proofs.Checks.{both}
+use Rattle.rules.proofs.Checks.{both, Passed}
 use Rattle.ledger.specs.Readiness.{Ready, readiness, lentChecks, Lent}
 use Rattle.ledger.specs.Sessions.{Opening}
 use Rattle.ledger.specs.Calls.{openLong}
 use Rattle.ledger.specs.Layout.{memorySize}
-
--- every check is passed
-abbrev pub Passed : List Check → Type 0
-Passed [] = Unit {0}
-Passed (check n ok ∷ ks) = (ok ≡ true) × Passed ks
 
 -- no check has the number 0
 abbrev pub numbered : List Check → Bool

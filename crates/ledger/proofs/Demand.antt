@@ -1,22 +1,23 @@
 -- Demand 3: after an opening that is not refused and any calls, refused ones among them, what is read in the memory is what a filter
--- tells of the opening with the decisions neither refused nor taken back, and a filter of what is kept tells the same. Each call is
--- handed a rule set anew: the filter's is that of the newest call not refused. The memory is well-formed for it. Assumes nothing.
-use mathlib.Core.Path.{_≡_, refl, ap, _∙_}
+-- tells of the opening with the decisions neither refused nor taken back, a filter of what is kept tells the same, and the memory is
+-- well-formed. Each call is handed a rule set anew: one that is not refused, the opening's. Assumes nothing.
+use mathlib.Core.Path.{_≡_, refl, sym, ap, _∙_}
 use mathlib.Core.Bool.{Bool, true, false, cond, not, _&&_}
 use mathlib.Core.Logic.{⊎-elim, _⊎_}
 use mathlib.Core.List.{List, [], _∷_, _++_, append-nil}
-use Prim.Native.Nat.{ℕ, zero, suc, _+_, _≤_}
+use Prim.Native.Nat.{ℕ, zero, suc, _+_, _≤_, _<_}
 use native.Mathlib.Omega.{arith}
 use lib.ListN.{length, drop, take}
 use lib.Seq.{take-at}
 use borrow.Author.Tests.{ltb-true}
-use Rattle.meaning.specs.Meaning.{Rules, Place, places, Decision, verdictOf}
+use Rattle.meaning.specs.Meaning.{Rules, Place, places, Decision, Verdict, verdictOf}
 use Rattle.meaning.proofs.Verdicts.{verdict-answers}
 use Rattle.meaning.proofs.Decisions.{verdict-again}
-use Rattle.rules.specs.Checks.{Handed}
+use Rattle.rules.specs.Checks.{Handed, OneRuleSet}
 use Rattle.rules.specs.Answers.{Check, check, decided, workAfter}
-use Rattle.rules.proofs.Checks.{both, size-of, sizes-of}
-use Rattle.ledger.specs.History.{Call, made, memoryAfter, Seen, seen, seenOf, granted, lastHanded, SameRules, stands, marksToPass, standingAfter, Reads, limitsOf}
+use Rattle.rules.proofs.Checks.{both, Passed, all-passed, size-of, sizes-of}
+use Rattle.rules.proofs.Within.{one-refl}
+use Rattle.ledger.specs.History.{Call, made, memoryAfter, Seen, seen, seenOf, granted, lastHanded, SameRules, stands, marksToPass, standingAfter, Reads, limitsOf, OnHand}
 use Rattle.ledger.specs.Sessions.{Opening, Entry, decision, mark, isMark, marks, isDecision, decisions, standing, placesBy, verdictBy, Ask, deciding, marking, goingBack, askChecks, after, backTo}
 use Rattle.ledger.proofs.Bounds.{entryRight, entriesRight, WithinBounds}
 use Rattle.ledger.specs.Readiness.{Left, left, readyChecks}
@@ -25,7 +26,8 @@ use Rattle.ledger.specs.Layout.{mostDecisions, mostMarks, memorySize}
 use Rattle.ledger.specs.Memory.{shownOf, imageOf, entriesOf, openingOf, heldIn, wellFormed}
 use Rattle.ledger.proofs.WellFormed.{verdict-by-long, image-entries, image-opening, image-long, image-right, formed-within}
 use Rattle.ledger.proofs.Numbers.{and-both}
-use Rattle.ledger.proofs.Checked.{Passed, memory-of, lengths-of}
+use Rattle.ledger.proofs.Alike.{verdict-by-alike, formed-alike}
+use Rattle.ledger.proofs.Checked.{memory-of, lengths-of}
 
 -- no check of the list answers 0 or 11
 abbrev refusing : List Check → Bool
@@ -191,13 +193,18 @@ unfolding places masksOf limitsOf
 places-of [] = refl
 places-of (p ∷ ps) = ap (λ (qs : List Place). p ∷ qs) (places-of ps)
 
-same-length : (ps : List Place) → length (masksOf ps) ≡ length (limitsOf ps)
-unfolding masksOf limitsOf
-same-length [] = refl
-same-length (p ∷ ps) = ap suc (same-length ps)
+masks-length : (ps : List Place) → length (masksOf ps) ≡ length ps
+unfolding masksOf
+masks-length [] = refl
+masks-length (p ∷ ps) = ap suc (masks-length ps)
+
+pub limits-length : (ps : List Place) → length (limitsOf ps) ≡ length ps
+unfolding limitsOf
+limits-length [] = refl
+limits-length (p ∷ ps) = ap suc (limits-length ps)
 
 again : (r : Rules) (q : ℕ) (ps : List Place) → verdictOf r q 0 (places (verdictOf r q 0 ps .masks) (limitsOf ps)) ≡ verdictOf r q 0 ps
-again r q ps = rw (places-of ps) at (verdict-again r q 0 (masksOf ps) (limitsOf ps) (same-length ps))
+again r q ps = rw (places-of ps) at (verdict-again r q 0 (masksOf ps) (limitsOf ps) (masks-length ps ∙ sym (limits-length ps)))
 
 -- the session that the calls have come to, by what was last handed
 module _ (o : Opening) where
@@ -236,80 +243,82 @@ module _ (o : Opening) where
     kept = take-at (verdictBy h o (standing es) .masks) _ (h .places) (verdict-by-long h o (standing es) (f .masks-long) (f .limits-long));
   }
 
+-- what is kept tells the same once more, whatever it is read from
+on-hand : (h : Handed) (o : Opening) (ds : List Decision) (m : List ℕ) → Reads (h .places) m (verdictBy h o ds) → wellFormed h m ≡ true → OnHand h o ds m
+unfolding verdictBy
+on-hand h o ds m r f = record {
+  session-tells = r;
+  session-again =
+      ap (λ (ks : List ℕ). verdictOf (h .rules) (h .start) 0 (places ks (limitsOf (placesBy o ds)))) (r .kept)
+      ∙ again (h .rules) (h .start) (placesBy o ds);
+  session-formed = f;
+}
+
+-- it is on hand for one rule set, however it was handed in
+reads-same : (m : List ℕ) (n k : ℕ) (t u : Verdict) → n ≡ k → t ≡ u → Reads k m u → Reads n m t
+reads-same m n k t u a b r = rw (a, b) r
+
+on-hand-alike : (h k : Handed) (o : Opening) (ds : List Decision) (m : List ℕ) → OneRuleSet h k → h .start < h .rules .arcs .states → OnHand k o ds m → OnHand h o ds m
+on-hand-alike h k o ds m one state t =
+    on-hand h o ds m (reads-same m _ _ _ _ (one .places) (verdict-by-alike h k one state o ds) (t .session-tells))
+    (formed-alike h k one state m ∙ t .session-formed)
+
 module _ (h : Handed) (o : Opening) where
   reached : (m : List ℕ) → m ≡ imageOf h o [] → Inside h o [] → (cs : List Call) → Reached o (lastHanded h m cs) (memoryAfter m cs) (seenOf m cs)
   unfolding memoryAfter seenOf lastHanded
   reached m e f [] = record { entries = []; inside = f; image = e; as-seen = nothing-stands }
   reached m e f (c ∷ cs) = step-on o (lastHanded h m cs) c (memoryAfter m cs) (seenOf m cs) (reached m e f cs)
 
-  -- where every call not refused was handed what the opening was, that is what was last handed
-  pub same-rules : (m : List ℕ) (cs : List Call) → SameRules h m cs → lastHanded h m cs ≡ h
+  -- where every call not refused was handed the opening's rule set, so was the newest
+  same-rules : (m : List ℕ) (cs : List Call) → SameRules h m cs → OneRuleSet h (lastHanded h m cs)
   unfolding SameRules lastHanded
-  same-rules m [] s = refl
+  same-rules m [] s = one-refl h
   same-rules m (c ∷ cs) s = go (granted (made c (memoryAfter m cs) .answer)) (s .0) (same-rules m cs (s .1))
     where
-      go : (b : Bool) → (b ≡ true → c .handed ≡ h) → lastHanded h m cs ≡ h → cond b (c .handed) (lastHanded h m cs) ≡ h
+      go : (b : Bool) → (b ≡ true → OneRuleSet h (c .handed)) → OneRuleSet h (lastHanded h m cs) → OneRuleSet h (cond b (c .handed) (lastHanded h m cs))
       go true e i = e refl
       go false e i = i
 
-  -- an opening that is not refused leaves the image of the opening
-  data Opened (x : Left) : Type 0 where
-    refused-open : granted (x .answer) ≡ false → Opened x
-    done-open : x .memory ≡ imageOf h o [] → Inside h o [] → Opened x
-
-  opening-within : (m w : List ℕ) → Passed (openChecks h o m w) → Inside h o []
-  unfolding entriesRight decisions marks
-  opening-within m w p =
-      let a = lengths-of (h .places) (h .rules .arcs .targets) (h .rules .arcs .costs) o (length m) (length w) (p .1 .0) in
-      record {
-        masks-long = a .masks-are;
-        limits-long = a .limits-are;
-        masks-right = p .1 .1 .1 .0;
-        entries-right = refl;
-        few = omega arith;
-        open-few = omega arith;
-      }
-
-  opened-case : (m w : List ℕ) → Opened (opened h o m w)
+  -- an opening that is not refused has passed its checks
+  pub opening-passed : (m w : List ℕ) → granted (opened h o m w .answer) ≡ true → Passed (openChecks h o m w)
   unfolding opened granted
-  opened-case m w =
-      decided-case Opened (λ n. left n m (workAfter n w)) (became h o [] w) (openChecks h o m w) refl (λ n e. refused-open e)
-      (λ p. done-open (became-granted h o [] w .1) (opening-within m w p))
+  opening-passed m w =
+      decided-case (λ x. granted (x .answer) ≡ true → Passed (openChecks h o m w)) (λ n. left n m (workAfter n w)) (became h o [] w)
+      (openChecks h o m w) refl (λ n e f. absurd (let z : _≡_ {A = ℕ} 0 1 = cc in omega arith)) (λ p e. p)
 
-  module _ (m w : List ℕ) (answered : granted (opened h o m w .answer) ≡ true) (cs : List Call) where
-    abbrev start : List ℕ
-    start = opened h o m w .memory
+  module _ (m w : List ℕ) (p : Passed (openChecks h o m w)) where
+    opening-image : opened h o m w .memory ≡ imageOf h o []
+    unfolding opened
+    opening-image =
+        ap (λ (x : Left). x .memory) (all-passed (λ n. left n m (workAfter n w)) (became h o [] w) (openChecks h o m w) p) ∙ became-granted h o [] w .1
 
-    -- what was last handed, by the opening or by a call not refused
-    abbrev now : Handed
-    now = lastHanded h start cs
+    opening-within : Inside h o []
+    unfolding entriesRight decisions marks
+    opening-within =
+        let a = lengths-of (h .places) (h .rules .arcs .targets) (h .rules .arcs .costs) o (length m) (length w) (p .1 .0) in
+        record {
+          masks-long = a .masks-are;
+          limits-long = a .limits-are;
+          masks-right = p .1 .1 .1 .0;
+          entries-right = refl;
+          few = omega arith;
+          open-few = omega arith;
+        }
 
-    -- the decisions neither refused nor taken back, and the limits under them
-    abbrev ds : List Decision
-    ds = standingAfter 0 (seenOf start cs)
+-- For any calls, each handed anything: by what the newest call not refused was handed
+pub session-last : (h : Handed) (o : Opening) (m w : List ℕ) (cs : List Call) → granted (opened h o m w .answer) ≡ true
+    → OnHand (lastHanded h (opened h o m w .memory) cs) o (standingAfter 0 (seenOf (opened h o m w .memory) cs)) (memoryAfter (opened h o m w .memory) cs)
+unfolding backs
+session-last h o m w cs e =
+    let p = opening-passed h o m w e in
+    let k : Handed = lastHanded h (opened h o m w .memory) cs in
+    let r = reached h o (opened h o m w .memory) (opening-image h o m w p) (opening-within h o m w p) cs in
+    on-hand k o _ _ (rw (r .image, r .as-seen 0) (reads-of o k (r .entries) (r .inside))) (rw (r .image) (image-right k o (r .entries) (r .inside)))
 
-    abbrev limits-now : List ℕ
-    limits-now = limitsOf (placesBy o ds)
-
-    come-to : Reached o now (memoryAfter start cs) (seenOf start cs)
-    come-to = go (opened-case m w)
-      where
-        go : Opened (opened h o m w) → Reached o now (memoryAfter start cs) (seenOf start cs)
-        go (refused-open e) = absurd (let z : _≡_ {A = ℕ} 0 1 = cc in omega arith)
-        go (done-open e f) = reached start e f cs
-
-    -- DEMAND 3
-    pub session-tells : Reads (now .places) (memoryAfter start cs) (verdictBy now o ds)
-    unfolding backs
-    session-tells = let r = come-to in rw (r .image, r .as-seen 0) (reads-of o now (r .entries) (r .inside))
-
-    -- the choices left standing, filtered once more under the same limits, tell the same
-    pub session-again : verdictOf (now .rules) (now .start) 0 (places (take (now .places) (drop 2 (memoryAfter start cs))) limits-now) ≡ verdictBy now o ds
-    unfolding verdictBy
-    session-again =
-        ap (λ (ks : List ℕ). verdictOf (now .rules) (now .start) 0 (places ks limits-now)) (session-tells .kept)
-        ∙ again (now .rules) (now .start) (placesBy o ds)
-
-    -- the memory is well-formed, as answer 12 has it
-    pub session-formed : wellFormed now (memoryAfter start cs) ≡ true
-    session-formed = let r = come-to in rw (r .image) (image-right now o (r .entries) (r .inside))
+-- DEMAND 3, where every call not refused was handed the opening's rule set
+pub demand-3 : (h : Handed) (o : Opening) (m w : List ℕ) (cs : List Call) → granted (opened h o m w .answer) ≡ true
+    → SameRules h (opened h o m w .memory) cs
+    → OnHand h o (standingAfter 0 (seenOf (opened h o m w .memory) cs)) (memoryAfter (opened h o m w .memory) cs)
+demand-3 h o m w cs e s =
+    on-hand-alike h _ o _ _ (same-rules h o (opened h o m w .memory) cs s)
+    (size-of _ _ _ (sizes-of _ _ _ _ (opening-passed h o m w e .0) .size) .start-state) (session-last h o m w cs e)

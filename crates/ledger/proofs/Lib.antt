@@ -6,4 +6,5 @@ pub mod Image
 pub mod Checked
 pub mod WellFormed
 pub mod Unique
+pub mod Alike
 pub mod Demand

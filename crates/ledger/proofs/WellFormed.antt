@@ -28,12 +28,15 @@ module _ (h : Handed) where
   right l = heldRight (h .places) (h .rules .arcs .states) (h .rules .arcs .values) (h .start) l
 
   -- a mask is kept for each place, whatever the decisions
+  pub places-by-long : (o : Opening) (ds : List Decision) → length (o .masks) ≡ h .places → length (o .limits) ≡ h .places
+      → length (placesBy o ds) ≡ h .places
+  unfolding placesBy
+  places-by-long o ds a b = length-decides (places (o .masks) (o .limits)) ds ∙ length-places (o .masks) (o .limits) (a ∙ sym b) ∙ a
+
   pub verdict-by-long : (o : Opening) (ds : List Decision) → length (o .masks) ≡ h .places → length (o .limits) ≡ h .places
       → length (verdictBy h o ds .masks) ≡ h .places
-  unfolding verdictBy placesBy
-  verdict-by-long o ds a b =
-      verdict-long (h .rules) (h .start) 0 (placesBy o ds) ∙ length-decides (places (o .masks) (o .limits)) ds
-      ∙ length-places (o .masks) (o .limits) (a ∙ sym b) ∙ a
+  unfolding verdictBy
+  verdict-by-long o ds a b = verdict-long (h .rules) (h .start) 0 (placesBy o ds) ∙ places-by-long o ds a b
 
   module _ (o : Opening) (es : List Entry) (f : WithinBounds (h .places) (h .rules .arcs .values) o es) where
     abbrev verdict-now : Verdict

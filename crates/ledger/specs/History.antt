@@ -5,10 +5,11 @@ use mathlib.Core.List.{List, [], _∷_, _++_}
 use Prim.Native.Nat.{ℕ, zero, suc}
 use lib.Dec.{eqb}
 use lib.ListN.{getD, take, drop}
-use Rattle.meaning.specs.Meaning.{Place, Decision, Verdict}
-use Rattle.rules.specs.Checks.{Handed}
-use Rattle.ledger.specs.Sessions.{Ask, deciding, marking, goingBack}
+use Rattle.meaning.specs.Meaning.{Place, places, Decision, Verdict, verdictOf}
+use Rattle.rules.specs.Checks.{Handed, OneRuleSet}
+use Rattle.ledger.specs.Sessions.{Opening, placesBy, verdictBy, Ask, deciding, marking, goingBack}
 use Rattle.ledger.specs.Readiness.{Left}
+use Rattle.ledger.specs.Memory.{wellFormed}
 use Rattle.ledger.specs.Calls.{called}
 
 -- a call: what it is handed and asks, and the work table that it is lent
@@ -47,10 +48,10 @@ unfoldable pub lastHanded : Handed → List ℕ → List Call → Handed
 lastHanded h m [] = h
 lastHanded h m (c ∷ cs) = cond (granted (made c (memoryAfter m cs) .answer)) (c .handed) (lastHanded h m cs)
 
--- every call not refused was handed h; a refused one may have been handed anything
+-- every call not refused was handed the rule set h, whatever stands in its tables from Q × V on; a refused one may have been handed anything
 unfoldable pub SameRules : Handed → List ℕ → List Call → Type 0
 SameRules h m [] = Unit {0}
-SameRules h m (c ∷ cs) = (granted (made c (memoryAfter m cs) .answer) ≡ true → c .handed ≡ h) × SameRules h m cs
+SameRules h m (c ∷ cs) = (granted (made c (memoryAfter m cs) .answer) ≡ true → OneRuleSet h (c .handed)) × SameRules h m cs
 
 -- The calls are read from the newest back. j counts the backs, not refused, that were read and whose mark is not yet met: while it is above 0,
 -- what is read was taken back. A back adds one to j, the mark that it goes back to takes one off
@@ -82,3 +83,10 @@ pub record Reads (n : ℕ) (m : List ℕ) (t : Verdict) : Type 0 where
 unfoldable pub limitsOf : List Place → List ℕ
 limitsOf [] = []
 limitsOf (p ∷ ps) = p .limit ∷ limitsOf ps
+
+-- DEMAND 3, of the rule set h, the opening o, the decisions ds and the memory m: what is read is what a filter tells of the opening with the
+-- decisions; the kept masks, filtered once more under the limits then in force, tell the same; and the memory is well-formed, as answer 12 has it
+pub record OnHand (h : Handed) (o : Opening) (ds : List Decision) (m : List ℕ) : Type 0 where
+  pub session-tells : Reads (h .places) m (verdictBy h o ds)
+  pub session-again : verdictOf (h .rules) (h .start) 0 (places (take (h .places) (drop 2 m)) (limitsOf (placesBy o ds))) ≡ verdictBy h o ds
+  pub session-formed : wellFormed h m ≡ true

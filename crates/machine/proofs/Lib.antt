@@ -4,5 +4,6 @@ pub mod Ranges
 pub mod Replays
 pub mod Shows
 pub mod Refreshes
+pub mod Again
 pub mod Readies
 pub mod Unique

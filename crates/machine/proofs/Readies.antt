@@ -7,11 +7,11 @@ use native.Mathlib.Omega.{arith}
 use lib.ListN.{length, take, length-drop}
 use Rattle.rules.specs.Checks.{Handed}
 use Rattle.rules.specs.Answers.{check, decided, workAfter, zeros}
-use Rattle.rules.proofs.Checks.{size-of, sizes-of}
+use Rattle.rules.proofs.Checks.{Passed, size-of, sizes-of}
 use Rattle.ledger.specs.Readiness.{readiness, readyOf, Left, left, lentChecks, renewChecks, renewedOf, renewedBy, Lent}
 use Rattle.ledger.specs.Layout.{shownSize}
 use Rattle.ledger.specs.Memory.{heldIn, heldRight, same, shownOf, verdictHeld, wellFormed, Held}
-use Rattle.ledger.proofs.Checked.{Passed, through, refused-on, passed-on, lent-of, memory-of}
+use Rattle.ledger.proofs.Checked.{through, refused-on, passed-on, lent-of, memory-of}
 use Rattle.machine.specs.Inner.{Compared, lentOf}
 
 -- two checks of one number are one

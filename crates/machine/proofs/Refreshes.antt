@@ -71,7 +71,7 @@ module _ (n q v start : ℕ) (l : List ℕ) (h : Held n q v start l) where
 
 -- the filter passes all checks
 module _ (h : Handed) (ms ls kept work : List ℕ) (lent : Lent h work) where
-  filter-tells : length ms ≡ h .places → length ls ≡ h .places → length kept ≡ h .places → masksRight (h .rules .arcs .values) ms ≡ true
+  pub filter-tells : length ms ≡ h .places → length ls ≡ h .places → length kept ≡ h .places → masksRight (h .rules .arcs .values) ms ≡ true
       → filterOf h ms ls kept work ≡ filterDone (verdictOf (h .rules) (h .start) 0 (places ms ls)) work
   unfolding filterOf decided lengthsRight
   filter-tells a b c d =

@@ -58,6 +58,23 @@ module _ {A : Type 0} (refuse : ℕ → A) (done : A) where
   unfolding decided
   is-done = refl
 
+-- every check is passed
+abbrev pub Passed : List Check → Type 0
+Passed [] = Unit {0}
+Passed (check n ok ∷ ks) = (ok ≡ true) × Passed ks
+
+pub all-passed : {A : Type 0} (refuse : ℕ → A) (done : A) (ks : List Check) → Passed ks → decided ks refuse done ≡ done
+unfolding decided
+all-passed refuse done [] p = refl
+all-passed refuse done (check n ok ∷ ks) p = rw (p .0) (all-passed refuse done ks (p .1))
+
+-- what is done matters only if every check is passed
+pub decided-same : {A : Type 0} (refuse : ℕ → A) (d e : A) (ks : List Check) → (Passed ks → d ≡ e) → decided ks refuse d ≡ decided ks refuse e
+unfolding decided
+decided-same refuse d e [] f = f tt
+decided-same refuse d e (check n true ∷ ks) f = decided-same refuse d e ks (λ p. f (refl, p))
+decided-same refuse d e (check n false ∷ ks) f = refl
+
 -- answer 1
 pub record Size (q v s : ℕ) : Type 0 where
   pub some-states : 1 ≤ q

@@ -1,8 +1,9 @@
--- What the check of the tables says of them, entry by entry; and that no roster of a lawful rule set passes the top. Assumes nothing.
+-- What the check of the tables says of them, entry by entry; that no roster of a lawful rule set passes the top; and that kept masks pass
+-- the check of masks. Assumes nothing.
 use mathlib.Core.Path.{_≡_, refl}
 use mathlib.Core.Logic.{_⊎_, ⊎-elim, inl, inr}
 use mathlib.Core.Bool.{Bool, true, _&&_, or-true}
-use mathlib.Core.List.{List, [], _∷_}
+use mathlib.Core.List.{List, [], _∷_, map}
 use Prim.Native.Nat.{ℕ, zero, suc, _+_, _*_, _^_, _≤_, _<_}
 use native.Mathlib.Decide.{ℕ-discrete}
 use native.Mathlib.Omega.{arith}
@@ -13,10 +14,11 @@ use lib.Seq.{take-length}
 use borrow.Author.Tests.{eq-eqb, eqb-true, leb-true, ltb-true, lt-ltb, le-leb}
 use Rattle.meaning.specs.Bounds.{mostPlaces, mostCost, noTarget, top}
 use Rattle.meaning.specs.Lists.{from, all}
-use Rattle.meaning.specs.Meaning.{Rules, rulesOf, target, cost, hasArc, accepted, total}
-use Rattle.rules.specs.Checks.{arcRight, tablesFrom, tablesRight}
+use Rattle.meaning.specs.Meaning.{Rules, rulesOf, target, cost, hasArc, accepted, total, Place, rosters, keptAt, kept, verdictOf}
+use Rattle.rules.specs.Checks.{arcRight, tablesFrom, tablesRight, masksRight}
 use Rattle.rules.proofs.Checks.{both, or-cases}
 use Rattle.meaning.proofs.Members.{Below}
+use Rattle.meaning.proofs.Kept.{kept-lt}
 
 abbrev pub ArcIn : ℕ → ℕ → ℕ → Type 0
 ArcIn q t c = ((t ≡ noTarget) × (c ≡ 0)) ⊎ ((t < q) × (c ≤ mostCost))
@@ -90,3 +92,12 @@ module _ (r : Rules) (w : Lawful r) where
   pub roster-top : (q : ℕ) (xs : List ℕ) → length xs ≤ mostPlaces → q < r .arcs .states → Below (r .arcs .values) xs → accepted r q xs ≡ true
       → total (r .arcs) q 0 xs ≤ top
   roster-top q xs l h b a = rw (take-length xs) at (running-top (length xs) q xs l h b a)
+
+-- no kept mask has a bit at or above V
+pub kept-right : (r : Rules) (q c : ℕ) (ps : List Place) → masksRight (r .arcs .values) (verdictOf r q c ps .masks) ≡ true
+unfolding masksRight verdictOf kept
+kept-right r q c ps = go 0 (length ps)
+  where
+    go : (i n : ℕ) → all (λ m. ltb m (2 ^ r .arcs .values)) (map (keptAt (r .arcs .values) (rosters r q c ps)) (from i n)) ≡ true
+    go i zero = refl
+    go i (suc n) = rw (lt-ltb _ _ (kept-lt (r .arcs .values) (rosters r q c ps) i)) (go (suc i) n)

@@ -1,5 +1,5 @@
--- Places from Q × V on play no part: tables that are alike before tell the same. Assumes nothing.
-use mathlib.Core.Path.{_≡_, refl, sym, ap, _∙_}
+-- Places from Q × V on play no part: rules that are alike before tell the same, and so does a call that is handed either. Assumes nothing.
+use mathlib.Core.Path.{_≡_, refl, sym, ap, ap₂, _∙_}
 use mathlib.Core.Bool.{Bool, true, false, cond, _&&_, and-assoc, and-false}
 use mathlib.Core.List.{List, [], _∷_, _++_}
 use mathlib.Core.List.{List·Memᴰ as In}
@@ -9,87 +9,149 @@ use lib.Arith.{digits-lt}
 use lib.Dec.{ltb}
 use lib.ListN.{length, getD, List·getD-append}
 use borrow.Author.Tests.{ltb-true}
-use Rattle.rules.specs.Checks.{arcRight, tablesFrom, tablesRight}
-use Rattle.meaning.specs.Lists.{from, all}
+use Rattle.rules.specs.Answers.{Check, check, decided}
+use Rattle.rules.specs.Checks.{Handed, Alike, RulesAlike, OneRuleSet, sizesRight, tablesLong, arcRight, tablesFrom, tablesRight, ruleChecks}
+use Rattle.meaning.specs.Lists.{from, those, all}
 use Rattle.meaning.specs.Meaning.{Rules, rulesOf, target, cost, hasArc, accepted, total, Place, takes, fits, allowed, words, rosters, kept, least, answer, verdict, verdictOn, verdictOf}
-use Rattle.rules.specs.Report.{steps}
+use Rattle.rules.specs.Report.{steps, valuesRight, reportOf}
 use Rattle.meaning.specs.Worked.{W}
-use Rattle.rules.proofs.Checks.{both}
+use Rattle.rules.proofs.Checks.{both, Passed, decided-same, sizes-of, size-of}
 use Rattle.meaning.proofs.Lists.{those-same, map-same}
 use Rattle.meaning.proofs.Members.{Below, words-in, roster-in}
 
--- tables that are alike in their first n places
-abbrev pub Alike : ℕ → List ℕ → List ℕ → Type 0
-Alike n xs ys = (k : ℕ) → k < n → getD xs k 0 ≡ getD ys k 0
-
 -- what follows an arc matters only if the arc is there
-behind : (k f1 f2 a1 a2 g : Bool) → (g ≡ true → (f1 && a1) ≡ (f2 && a2)) → ((k && f1) && (g && a1)) ≡ ((k && f2) && (g && a2))
-behind k f1 f2 a1 a2 true e = and-assoc k f1 a1 ∙ (ap (λ (b : Bool). k && b) (e refl) ∙ sym (and-assoc k f2 a2))
-behind k f1 f2 a1 a2 false e = and-false (k && f1) ∙ sym (and-false (k && f2))
+behind : (k f1 f2 a1 a2 g h : Bool) → g ≡ h → (g ≡ true → (f1 && a1) ≡ (f2 && a2)) → ((k && f1) && (g && a1)) ≡ ((k && f2) && (h && a2))
+behind k f1 f2 a1 a2 true h e f = rw (← e) (and-assoc k f1 a1 ∙ (ap (λ (b : Bool). k && b) (f refl) ∙ sym (and-assoc k f2 a2)))
+behind k f1 f2 a1 a2 false h e f = rw (← e) (and-false (k && f1) ∙ sym (and-false (k && f2)))
+
+values-below : (v : ℕ) (w : List ℕ) → valuesRight v w ≡ true → Below v w
+unfolding valuesRight
+values-below v [] e = tt
+values-below v (x ∷ w) e = let b = both (ltb x v) _ e in (ltb-true _ _ (b .0), values-below v w (b .1))
 
 all-alike : (f g : ℕ → Bool) (i n : ℕ) → ((k : ℕ) → k < i + n → f k ≡ g k) → all f (from i n) ≡ all g (from i n)
 all-alike f g i zero e = refl
 all-alike f g i (suc n) e = rw (e i (omega arith), all-alike f g (suc i) n (λ k h. e k (omega arith)))
 
-module _ (qs vs m : ℕ) (t c u d : List ℕ) (same-targets : Alike (qs * vs) t u) (same-costs : Alike (qs * vs) c d) where
-  abbrev one : Rules
-  one = rulesOf qs vs t c m
+module _ (r u : Rules) (alike : RulesAlike r u) where
+  pub target-same : (q v : ℕ) → q < r .arcs .states → v < r .arcs .values → target (r .arcs) q v ≡ target (u .arcs) q v
+  target-same q v h k = rw (← alike .values) (alike .targets (q * r .arcs .values + v) (digits-lt h k))
 
-  abbrev other : Rules
-  other = rulesOf qs vs u d m
+  pub cost-same : (q v : ℕ) → q < r .arcs .states → v < r .arcs .values → cost (r .arcs) q v ≡ cost (u .arcs) q v
+  cost-same q v h k = rw (← alike .values) (alike .costs (q * r .arcs .values + v) (digits-lt h k))
 
   -- the same answer to check 3
-  pub tables-alike : tablesRight qs vs t c m ≡ tablesRight qs vs u d m
+  pub tables-alike : tablesRight (r .arcs .states) (r .arcs .values) (r .arcs .targets) (r .arcs .costs) (r .accepting)
+      ≡ tablesRight (u .arcs .states) (u .arcs .values) (u .arcs .targets) (u .arcs .costs) (u .accepting)
   unfolding tablesRight tablesFrom
   tables-alike =
-      rw (all-alike (λ k. arcRight qs (getD t k 0) (getD c k 0)) (λ k. arcRight qs (getD u k 0) (getD d k 0)) 0 (qs * vs)
-      (λ k h. rw (same-targets k (omega arith), same-costs k (omega arith))))
+      let q : ℕ = r .arcs .states in
+      rw (
+        ← alike .states,
+        ← alike .values,
+        ← alike .accepting,
+        all-alike (λ k. arcRight q (getD (r .arcs .targets) k 0) (getD (r .arcs .costs) k 0)) (λ k. arcRight q (getD (u .arcs .targets) k 0) (getD (u .arcs .costs) k 0)) 0 (q * r .arcs .values)
+            (λ k h. rw (alike .targets k (omega arith), alike .costs k (omega arith))),
+      )
 
-  allowed-alike : (q s : ℕ) (ps : List Place) (w : List ℕ) → q < qs → Below vs w → allowed one q s ps w ≡ allowed other q s ps w
-  allowed-alike q s [] [] h b = refl
+  allowed-alike : (q s : ℕ) (ps : List Place) (w : List ℕ) → q < r .arcs .states → Below (r .arcs .values) w → allowed r q s ps w ≡ allowed u q s ps w
+  allowed-alike q s [] [] h b = rw (alike .accepting)
   allowed-alike q s [] (v ∷ w) h b = refl
   allowed-alike q s (p ∷ ps) [] h b = refl
   allowed-alike q s (p ∷ ps) (v ∷ w) h b =
-      let k : q * vs + v < qs * vs = digits-lt h (b .0) in
-      let n : ℕ = target (other .arcs) q v in
-      let x : ℕ = s + cost (other .arcs) q v in
-      rw (same-targets (q * vs + v) k, same-costs (q * vs + v) k)
-      (behind (takes p x v) (fits (one .arcs) n x ps w) (fits (other .arcs) n x ps w) (accepted one n w) (accepted other n w) (ltb n qs) (λ e. allowed-alike n x ps w (ltb-true _ _ e) (b .1)))
+      let n : ℕ = target (u .arcs) q v in
+      let x : ℕ = s + cost (u .arcs) q v in
+      rw (target-same q v h (b .0), cost-same q v h (b .0))
+      (behind (takes p x v) (fits (r .arcs) n x ps w) (fits (u .arcs) n x ps w) (accepted r n w) (accepted u n w) (ltb n (r .arcs .states)) (ltb n (u .arcs .states))
+      (ap (ltb n) (alike .states)) (λ e. allowed-alike n x ps w (ltb-true _ _ e) (b .1)))
 
-  total-alike : (q s : ℕ) (w : List ℕ) → q < qs → Below vs w → accepted one q w ≡ true → total (one .arcs) q s w ≡ total (other .arcs) q s w
+  total-alike : (q s : ℕ) (w : List ℕ) → q < r .arcs .states → Below (r .arcs .values) w → accepted r q w ≡ true → total (r .arcs) q s w ≡ total (u .arcs) q s w
   total-alike q s [] h b a = refl
   total-alike q s (v ∷ w) h b a =
-      let k : q * vs + v < qs * vs = digits-lt h (b .0) in
-      let p = both (hasArc (one .arcs) q v) _ a in
-      total-alike (target (one .arcs) q v) (s + cost (one .arcs) q v) w (ltb-true _ _ (p .0)) (b .1) (p .1)
-      ∙ rw (same-targets (q * vs + v) k, same-costs (q * vs + v) k)
+      let p = both (hasArc (r .arcs) q v) _ a in
+      total-alike (target (r .arcs) q v) (s + cost (r .arcs) q v) w (ltb-true _ _ (p .0)) (b .1) (p .1)
+      ∙ rw (target-same q v h (b .0), cost-same q v h (b .0))
 
   -- the same rosters, so the same first roster with a value at a place
-  pub rosters-alike : (q s : ℕ) (ps : List Place) → q < qs → rosters one q s ps ≡ rosters other q s ps
+  pub rosters-alike : (q s : ℕ) (ps : List Place) → q < r .arcs .states → rosters r q s ps ≡ rosters u q s ps
   unfolding rosters
-  rosters-alike q s ps h = those-same _ _ (words vs (length ps)) (λ w k. allowed-alike q s ps w h (words-in vs (length ps) w k .1))
+  rosters-alike q s ps h =
+      those-same _ _ (words (r .arcs .values) (length ps)) (λ w k. allowed-alike q s ps w h (words-in (r .arcs .values) (length ps) w k .1))
+      ∙ ap (λ (vs : ℕ). those (allowed u q s ps) (words vs (length ps))) (alike .values)
 
   -- A FILTER TELLS THE SAME
-  pub verdict-alike : (q s : ℕ) (ps : List Place) → q < qs → verdictOf one q s ps ≡ verdictOf other q s ps
+  pub verdict-alike : (q s : ℕ) (ps : List Place) → q < r .arcs .states → verdictOf r q s ps ≡ verdictOf u q s ps
   unfolding verdictOf
   verdict-alike q s ps h =
-      let ws : List (List ℕ) = rosters one q s ps in
-      let accepts : (w : List ℕ) → In w ws → Below vs w × (accepted one q w ≡ true) =
-      λ w k. let r = roster-in one q s ps w .0 k in (r .1, both (fits (one .arcs) q s ps w) _ (r .2) .1) in
-      ap (λ (xs : List ℕ). verdict (answer ws) (kept vs (length ps) ws) (least xs)) (map-same _ _ ws (λ w k. total-alike q s w h (accepts w k .0) (accepts w k .1)))
-      ∙ ap (verdictOn (other .arcs) q s (length ps)) (rosters-alike q s ps h)
+      let ws : List (List ℕ) = rosters r q s ps in
+      let accepts : (w : List ℕ) → In w ws → Below (r .arcs .values) w × (accepted r q w ≡ true) =
+      λ w k. let m = roster-in r q s ps w .0 k in (m .1, both (fits (r .arcs) q s ps w) _ (m .2) .1) in
+      ap₂ (λ (vs : ℕ) (xs : List ℕ). verdict (answer ws) (kept vs (length ps) ws) (least xs)) (alike .values)
+      (map-same _ _ ws (λ w k. total-alike q s w h (accepts w k .0) (accepts w k .1)))
+      ∙ ap (verdictOn (u .arcs) q s (length ps)) (rosters-alike q s ps h)
 
-  -- and so does a prefix report
-  pub steps-alike : (q : ℕ) (w : List ℕ) → q < qs → Below vs w → steps (one .arcs) q w ≡ steps (other .arcs) q w
+  -- and a prefix report makes the same steps
+  pub steps-alike : (q : ℕ) (w : List ℕ) → q < r .arcs .states → Below (r .arcs .values) w → steps (r .arcs) q w ≡ steps (u .arcs) q w
   unfolding steps
   steps-alike q [] h b = refl
   steps-alike q (v ∷ w) h b =
-      rw (same-targets (q * vs + v) (digits-lt h (b .0))) (go (ltb (target (other .arcs) q v) qs) (λ e. steps-alike (target (other .arcs) q v) w (ltb-true _ _ e) (b .1)))
+      let n : ℕ = target (u .arcs) q v in
+      rw (target-same q v h (b .0))
+      (go (steps (r .arcs) n w) (steps (u .arcs) n w) (ltb n (r .arcs .states)) (ltb n (u .arcs .states)) (ap (ltb n) (alike .states))
+      (λ e. steps-alike n w (ltb-true _ _ e) (b .1)))
     where
-      go : (g : Bool) → (g ≡ true → steps (one .arcs) (target (other .arcs) q v) w ≡ steps (other .arcs) (target (other .arcs) q v) w)
-          → cond g (suc (steps (one .arcs) (target (other .arcs) q v) w)) 0 ≡ cond g (suc (steps (other .arcs) (target (other .arcs) q v) w)) 0
-      go true e = ap suc (e refl)
-      go false e = refl
+      go : (i j : ℕ) (g k : Bool) → g ≡ k → (g ≡ true → i ≡ j) → cond g (suc i) 0 ≡ cond k (suc j) 0
+      go i j true k e f = rw (← e) (ap suc (f refl))
+      go i j false k e f = rw (← e)
+
+pub one-refl : (h : Handed) → OneRuleSet h h
+one-refl h = record {
+  places = refl;
+  start = refl;
+  rules = record { states = refl; values = refl; accepting = refl; targets = λ k l. refl; costs = λ k l. refl };
+  targets-long = refl;
+  costs-long = refl;
+}
+
+-- checks that are the same, the first being passed, do the same
+checks-same : {A : Type 0} (refuse : ℕ → A) (d e : A) (ks ls : List Check) (x y t u r s : Bool) → x ≡ y → t ≡ u → r ≡ s
+    → (x ≡ true → ks ≡ ls) → (x ≡ true → Passed ks → d ≡ e)
+    → decided (check 1 x ∷ check 2 t ∷ check 3 r ∷ ks) refuse d ≡ decided (check 1 y ∷ check 2 u ∷ check 3 s ∷ ls) refuse e
+unfolding decided
+checks-same refuse d e ks ls true y t u r s i j k f g =
+    rw (← i, ← j, ← k, ← f refl) (decided-same refuse d e (check 2 t ∷ check 3 r ∷ ks) (λ p. g refl (p .1 .1)))
+checks-same refuse d e ks ls false y t u r s i j k f g = rw (← i)
+
+-- One rule set, handed in twice: a call goes alike if, the start being a state, its other checks and what it does are the same
+module _ (h k : Handed) (one : OneRuleSet h k) where
+  sizes-same : sizesRight (h .places) (h .rules .arcs .states) (h .rules .arcs .values) (h .start)
+      ≡ sizesRight (k .places) (k .rules .arcs .states) (k .rules .arcs .values) (k .start)
+  sizes-same = cc (one .places, one .start, one .rules .states, one .rules .values)
+
+  pub lengths-same : tablesLong (h .rules .arcs .targets) (h .rules .arcs .costs) ≡ tablesLong (k .rules .arcs .targets) (k .rules .arcs .costs)
+  unfolding tablesLong
+  lengths-same = cc (one .targets-long, one .costs-long)
+
+  pub calls-alike : {A : Type 0} (refuse : ℕ → A) (d e : A) (b c : Bool) (ks ls : List Check) → b ≡ c
+      → (h .start < h .rules .arcs .states → ks ≡ ls) → (h .start < h .rules .arcs .states → Passed ks → d ≡ e)
+      → decided (ruleChecks h b ks) refuse d ≡ decided (ruleChecks k c ls) refuse e
+  calls-alike refuse d e b c ks ls i f g =
+      checks-same refuse d e ks ls _ _ _ _ _ _ sizes-same (cc lengths-same) (tables-alike (h .rules) (k .rules) (one .rules)) (λ x. f (state x)) (λ x. g (state x))
+    where
+      state : sizesRight (h .places) (h .rules .arcs .states) (h .rules .arcs .values) (h .start) ≡ true → h .start < h .rules .arcs .states
+      state x = size-of _ _ _ (sizes-of _ _ _ _ x .size) .start-state
+
+  -- a filter of its places tells the same
+  pub tells-alike : (ps : List Place) → h .start < h .rules .arcs .states → verdictOf (h .rules) (h .start) 0 ps ≡ verdictOf (k .rules) (k .start) 0 ps
+  tells-alike ps s =
+      verdict-alike (h .rules) (k .rules) (one .rules) (h .start) 0 ps s ∙ ap (λ (q : ℕ). verdictOf (k .rules) q 0 ps) (one .start)
+
+  -- so goes the prefix report
+  pub report-alike : (w : List ℕ) → reportOf h w ≡ reportOf k w
+  unfolding reportOf
+  report-alike w =
+      calls-alike _ _ _ _ _ _ _ (cc (one .places)) (λ s. cc (one .rules .values))
+      (λ s p. rw (steps-alike (h .rules) (k .rules) (one .rules) (h .start) w s (values-below _ w (p .0)), one .places, one .start))
 
 -- a table and what may follow it
 alike-more : (xs ys : List ℕ) → Alike (length xs) (xs ++ ys) xs
@@ -100,10 +162,20 @@ module _ (xs ys : List ℕ) where
   abbrev longer : Rules
   longer = rulesOf (W .arcs .states) (W .arcs .values) (W .arcs .targets ++ xs) (W .arcs .costs ++ ys) (W .accepting)
 
+  longer-alike : RulesAlike longer W
+  unfolding W
+  longer-alike = record {
+    states = refl;
+    values = refl;
+    accepting = refl;
+    targets = alike-more (W .arcs .targets) xs;
+    costs = alike-more (W .arcs .costs) ys;
+  }
+
   pub worked-rosters : (ps : List Place) → rosters longer 0 0 ps ≡ rosters W 0 0 ps
   unfolding W
-  worked-rosters ps = rosters-alike 6 3 61 _ _ _ _ (alike-more (W .arcs .targets) xs) (alike-more (W .arcs .costs) ys) 0 0 ps (omega arith)
+  worked-rosters ps = rosters-alike longer W longer-alike 0 0 ps (omega arith)
 
   pub worked-verdict : (ps : List Place) → verdictOf longer 0 0 ps ≡ verdictOf W 0 0 ps
   unfolding W
-  worked-verdict ps = verdict-alike 6 3 61 _ _ _ _ (alike-more (W .arcs .targets) xs) (alike-more (W .arcs .costs) ys) 0 0 ps (omega arith)
+  worked-verdict ps = verdict-alike longer W longer-alike 0 0 ps (omega arith)

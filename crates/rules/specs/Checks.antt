@@ -1,7 +1,8 @@
 -- What a call is handed, and the checks of answers 1 to 4 as tests that compute.
+use mathlib.Core.Path.{_≡_}
 use mathlib.Core.Bool.{Bool, _&&_, _||_}
 use mathlib.Core.List.{List, _∷_}
-use Prim.Native.Nat.{ℕ, _*_, _^_}
+use Prim.Native.Nat.{ℕ, _*_, _^_, _<_}
 use lib.Dec.{leb, ltb, eqb}
 use lib.ListN.{length, getD}
 use Rattle.meaning.specs.Meaning.{Rules, rulesOf}
@@ -17,6 +18,26 @@ pub record Handed : Type 0 where
 
 abbrev pub handed : ℕ → ℕ → ℕ → ℕ → List ℕ → List ℕ → ℕ → Handed
 handed n q v s t c a = record { places = n; start = s; rules = rulesOf q v t c a }
+
+-- tables alike in their first n places
+abbrev pub Alike : ℕ → List ℕ → List ℕ → Type 0
+Alike n xs ys = (k : ℕ) → k < n → getD xs k 0 ≡ getD ys k 0
+
+-- rules alike in all that plays a part: places from Q × V on play none
+pub record RulesAlike (r u : Rules) : Type 0 where
+  pub states : r .arcs .states ≡ u .arcs .states
+  pub values : r .arcs .values ≡ u .arcs .values
+  pub accepting : r .accepting ≡ u .accepting
+  pub targets : Alike (r .arcs .states * r .arcs .values) (r .arcs .targets) (u .arcs .targets)
+  pub costs : Alike (r .arcs .states * r .arcs .values) (r .arcs .costs) (u .arcs .costs)
+
+-- one rule set, handed in twice: in tables of the same lengths, as any two full ones are
+pub record OneRuleSet (h k : Handed) : Type 0 where
+  pub places : h .places ≡ k .places
+  pub start : h .start ≡ k .start
+  pub rules : RulesAlike (h .rules) (k .rules)
+  pub targets-long : length (h .rules .arcs .targets) ≡ length (k .rules .arcs .targets)
+  pub costs-long : length (h .rules .arcs .costs) ≡ length (k .rules .arcs .costs)
 
 -- answer 1: n, Q, V outside its range, or start not below Q
 unfoldable pub sizeRight : ℕ → ℕ → ℕ → Bool

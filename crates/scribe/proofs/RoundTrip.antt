@@ -1,18 +1,21 @@
--- What the writer writes, the reader reads as the same rule set. Assumes nothing.
+-- What the writer writes, the reader reads as the same rule set, and what the reader reads, the writer writes as the same bytes. Assumes nothing.
 use mathlib.Core.Path.{_≡_, refl, ap}
 use mathlib.Core.Bool.{Bool, true, false}
 use mathlib.Core.List.{List, [], _∷_, _++_}
-use Prim.Native.Nat.{ℕ, _*_}
+use Prim.Native.Nat.{ℕ, _*_, _≤_}
 use native.Mathlib.Omega.{arith}
 use lib.Dec.{leb}
 use lib.ListN.{length, take, drop}
 use lib.Seq.{take-at}
+use borrow.Author.Tests.{le-leb}
 use Rattle.meaning.specs.Meaning.{rulesOf}
-use Rattle.rules.specs.Checks.{sizeRight, tablesLong, tablesRight, rulesRight}
+use Rattle.rules.specs.Checks.{Handed, OneRuleSet, sizeRight, tablesLong, tablesRight, rulesRight}
 use Rattle.rules.specs.Answers.{check, decided}
+use Rattle.rules.proofs.Checks.{both, all-passed}
+use Rattle.rules.proofs.Within.{tables-alike, lengths-same}
 use Rattle.sheet.specs.Sheets.{sheetText}
 use Rattle.sheet.specs.Reading.{readLeft, readOf}
-use Rattle.sheet.proofs.OneText.{reads-back}
+use Rattle.sheet.proofs.OneText.{reads-back, one-text, text-alike}
 use Rattle.scribe.specs.Writing.{writeLeft, writeOf}
 
 -- what answer 0 says: the rule set is right, and its text stands at the front of the buffer
@@ -44,3 +47,20 @@ module _ (q v s : ℕ) (t c : List ℕ) (a : ℕ) (b : List ℕ) where
   pub written-reads : (n : ℕ) (b2 xs ys : List ℕ) → writeOf (rulesOf q v t c a) s b ≡ writeLeft 0 n b2 → tablesLong xs ys ≡ true
       → readOf (take n b2) xs ys ≡ readLeft 0 0 q v s a (take (q * v) t ++ drop (q * v) xs) (take (q * v) c ++ drop (q * v) ys)
   written-reads n b2 xs ys e h = let w = written n b2 e in rw (w .front) (reads-back q v s t c a xs ys (w .right) h)
+
+  -- AND BACK: bytes that are read are written again, each the same, into any buffer that has room for them
+  pub read-writes : (bytes xs ys : List ℕ) (n : ℕ) → readOf bytes xs ys ≡ readLeft 0 n q v s a t c → length bytes ≤ length b
+      → writeOf (rulesOf q v t c a) s b ≡ writeLeft 0 (length bytes) (bytes ++ drop (length bytes) b)
+  unfolding writeOf rulesRight
+  read-writes bytes xs ys n e h =
+      let w = one-text bytes xs ys n q v s a t c e in
+      let p = both (sizeRight q v s) _ (w .right) in
+      let p2 = both (tablesLong t c) _ (p .1) in
+      let room : length text ≤ length b = omega (arith, ap length (w .is-text)) in
+      rw (w .is-text) (all-passed _ _ _ (p .0, (p2 .0, (p2 .1, (le-leb _ _ room, tt)))))
+
+-- Places from Q × V on play no part: one rule set, handed to the writer in two ways
+pub write-alike : (h k : Handed) (b : List ℕ) → OneRuleSet h k → writeOf (h .rules) (h .start) b ≡ writeOf (k .rules) (k .start) b
+unfolding writeOf
+write-alike h k b one =
+    cc (one .start, one .rules .states, one .rules .values, lengths-same h k one, tables-alike (h .rules) (k .rules) (one .rules), text-alike (h .rules) (k .rules) (one .rules) (h .start))

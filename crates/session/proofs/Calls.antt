@@ -14,7 +14,7 @@ use Rattle.meaning.specs.Bounds.{mostPlaces, mostValues}
 use Rattle.meaning.proofs.Verdicts.{verdict-answers}
 use Rattle.rules.specs.Checks.{Handed}
 use Rattle.rules.specs.Answers.{decided, workAfter, zeros}
-use Rattle.rules.proofs.Checks.{size-of, sizes-of}
+use Rattle.rules.proofs.Checks.{Passed, size-of, sizes-of}
 use Rattle.ledger.specs.Sessions.{Opening, Entry, decision, mark, isMark, marks, isDecision, decisions, standing, placesBy, verdictBy, Ask, deciding, marking, goingBack, decisionRight, askChecks, after, backTo}
 use Rattle.ledger.proofs.Bounds.{WithinBounds}
 use Rattle.ledger.specs.Readiness.{readiness, readyOf, readyChecks, lentChecks, Left, left, renewedOf, renewedBy, Lent}
@@ -23,7 +23,7 @@ use Rattle.ledger.specs.Layout.{mostDecisions, mostMarks, mostEntries, shownSiz
 use Rattle.ledger.specs.Memory.{countOf, rowsOf, heldOf, shownOf, imageOf, entryOf, entriesOf, openingOf, heldIn, rowRight, heldRight, verdictHeld, Held}
 use Rattle.ledger.proofs.WellFormed.{formed-held, formed-within, formed-shown}
 use Rattle.ledger.proofs.Numbers.{tail-is}
-use Rattle.ledger.proofs.Checked.{Passed, through, refused-on, passed-on, lent-of, memory-of}
+use Rattle.ledger.proofs.Checked.{through, refused-on, passed-on, lent-of, memory-of}
 use Rattle.ledger.proofs.Image.{one-each, held-of, entries-of, opening-of, long-of}
 use Rattle.session.specs.Inner.{Counted, pushed, markAt, undoneAt, Formed, decidedOn}
 use Rattle.session.proofs.Pushes.{Addable, held-counts, added-within, added-counts, added-held}

@@ -1,22 +1,24 @@
 -- One text for each rule set, and it reads back. Assumes nothing.
-use mathlib.Core.Path.{_≡_, refl, ap, sym, _∙_}
+use mathlib.Core.Path.{_≡_, refl, ap, ap₂, sym, _∙_}
 use mathlib.Core.Bool.{Bool, true, false}
 use mathlib.Core.List.{List, [], _∷_, _++_, map}
-use Prim.Native.Nat.{ℕ, zero, suc, _*_, _≤_}
+use Prim.Native.Nat.{ℕ, zero, suc, _*_, _≤_, _<_}
 use native.Mathlib.Omega.{arith}
 use lib.ListN.{length, take, drop}
 use borrow.Author.Tests.{lt-ltb, eq-eqb}
-use Rattle.meaning.specs.Meaning.{rulesOf}
-use Rattle.meaning.specs.Lists.{each}
+use Rattle.meaning.specs.Meaning.{Rules, rulesOf}
+use Rattle.meaning.specs.Lists.{from, each}
 use Rattle.meaning.specs.Bounds.{tableSize}
-use Rattle.rules.specs.Checks.{sizeRight, tablesLong, rulesRight}
+use Rattle.rules.specs.Checks.{RulesAlike, sizeRight, tablesLong, rulesRight}
 use Rattle.rules.specs.Answers.{check, decided}
 use Rattle.rules.proofs.Checks.{both, size-of, size-last, long-tables, arcs-few}
 use Rattle.rules.specs.declared.Size.{Size}
 use Rattle.rules.proofs.Lawful.{Lawful, lawful}
+use Rattle.rules.proofs.Within.{target-same, cost-same}
+use Rattle.meaning.proofs.Lists.{each-same}
 use Rattle.sheet.specs.Lines.{sizeOf, Line, sizeText, lineText, place}
 use Rattle.text.specs.Lines.{lines}
-use Rattle.sheet.specs.Sheets.{linesOf, textOf, sheetText, Sheet, sheet, wrongAt, readSheet, acceptingOf, targetsOf, costsOf}
+use Rattle.sheet.specs.Sheets.{finalLine, arcLine, linesOf, textOf, sheetText, Sheet, sheet, wrongAt, readSheet, acceptingOf, targetsOf, costsOf}
 use Rattle.sheet.specs.Reading.{readLeft, readOf, isRight, readRefused, readDone}
 use Rattle.sheet.specs.Inner.{Sized}
 use Rattle.text.proofs.Cutting.{lines-one}
@@ -96,6 +98,23 @@ one-text text xs ys n q v s a t c e = go (tablesLong xs ys) refl (readSheet text
 -- so each rule set has one text
 pub texts-same : (text other xs ys : List ℕ) (n q v s a : ℕ) (t c : List ℕ) → readOf text xs ys ≡ readLeft 0 n q v s a t c → readOf other xs ys ≡ readLeft 0 n q v s a t c → text ≡ other
 texts-same text other xs ys n q v s a t c e f = one-text text xs ys n q v s a t c e .is-text ∙ sym (one-text other xs ys n q v s a t c f .is-text)
+
+-- Places from Q × V on play no part in it
+module _ (r u : Rules) (alike : RulesAlike r u) where
+  arc-alike : (q v : ℕ) → q < r .arcs .states → v < r .arcs .values → arcLine (r .arcs) q v ≡ arcLine (u .arcs) q v
+  arc-alike q v h k = cc (alike .states, target-same r u alike q v h k, cost-same r u alike q v h k)
+
+  lines-alike : linesOf r ≡ linesOf u
+  unfolding linesOf
+  lines-alike =
+      ap₂ (λ (xs ys : List Line). xs ++ ys)
+      (ap₂ (λ (a n : ℕ). each (finalLine a) (from 0 n)) (alike .accepting) (alike .states))
+      (each-same _ _ 0 (r .arcs .states) (λ q a b. each-same _ _ 0 (r .arcs .values) (λ v c d. arc-alike q v (omega arith) (omega arith)))
+      ∙ ap₂ (λ (v n : ℕ). each (λ q. each (arcLine (u .arcs) q) (from 0 v)) (from 0 n)) (alike .values) (alike .states))
+
+  pub text-alike : (s : ℕ) → sheetText r s ≡ sheetText u s
+  unfolding sheetText
+  text-alike s = cc (alike .states, alike .values, lines-alike)
 
 -- THE FIRST LINES OF A RIGHT SHEET ARE A RIGHT SHEET
 cut-lines : (ls : List Line) → lines (each lineText ls) ≡ map lineText ls
