@@ -3,11 +3,11 @@
 -- well-formed. Each call is handed a rule set anew: one that is not refused, the opening's. Assumes nothing.
 use mathlib.Core.Path.{_≡_, refl, sym, ap, _∙_}
 use mathlib.Core.Bool.{Bool, true, false, cond, not, _&&_}
-use mathlib.Core.Logic.{⊎-elim, _⊎_}
+use mathlib.Core.Logic.{⊎-elim}
 use mathlib.Core.List.{List, [], _∷_, _++_, append-nil}
 use Prim.Native.Nat.{ℕ, zero, suc, _+_, _≤_, _<_}
 use native.Mathlib.Omega.{arith}
-use lib.ListN.{length, drop, take}
+use lib.ListN.{length}
 use lib.Seq.{take-at}
 use borrow.Author.Tests.{ltb-true}
 use Rattle.meaning.specs.Meaning.{Rules, Place, places, Decision, Verdict, verdictOf}

@@ -11,7 +11,7 @@ use Rattle.rules.proofs.Lawful.{kept-right}
 use Rattle.ledger.specs.Sessions.{Opening, placesBy, verdictBy}
 use Rattle.ledger.specs.Calls.{opened}
 use Rattle.ledger.specs.History.{Call, memoryAfter, seenOf, granted, SameRules, standingAfter, limitsOf}
-use Rattle.ledger.proofs.Checked.{OpenLengths, lengths-of}
+use Rattle.ledger.proofs.Checked.{lengths-of}
 use Rattle.ledger.proofs.WellFormed.{places-by-long, verdict-by-long}
 use Rattle.ledger.proofs.Demand.{limits-length, opening-passed, demand-3}
 use Rattle.filter.specs.Filter.{filterDone, filterOf}
