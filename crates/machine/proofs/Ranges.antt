@@ -2,13 +2,13 @@
 use mathlib.Core.Path.{_≡_, sym, ap, ap₂, _∙_}
 use mathlib.Core.Bool.{Bool, true, false, _&&_}
 use mathlib.Core.List.{List}
-use Prim.Native.Nat.{ℕ, _+_, _-_, _*_, _^_, _%_, _≤_, _<_}
+use Prim.Native.Nat.{ℕ, _+_, _-_, _*_, _^_, _≤_, _<_, min}
 use native.Mathlib.Omega.{arith}
 use lib.ListN.{getD, drop, take}
 use lib.Dec.{eqb, ltb}
 use lib.Pow.{pow-mono}
 use borrow.Author.Tests.{eq-eqb, ne-eqb, ltb-true}
-use Rattle.kinds.proofs.Bits.{shl-one}
+use Rattle.kinds.specs.Bits.{width}
 use Rattle.meaning.specs.Bounds.{mostValues}
 use Rattle.rules.proofs.Checks.{both}
 use Rattle.ledger.specs.Sessions.{marks}
@@ -36,6 +36,10 @@ module _ (n v d m k : ℕ) (s : List ℕ) (is : k ≡ d + m) where
       (eq-eqb (marks (entriesAt (d + m) s)) m (ap (λ (j : ℕ). marks (entriesAt j s)) (sym is) ∙ sym f ∙ g))
       ∙ ap (λ (j : ℕ). allZero (drop (j * rowSize) s)) (sym is))
 
+-- the bound of a mask of values that it has room for
+pub few-bound : (v : ℕ) → v ≤ mostValues → 2 ^ min v width ≡ 2 ^ v
+few-bound v h = let e : min v width ≡ v = omega arith in rw e
+
 module _ (n q v start : ℕ) (l : List ℕ) where
   pub held-1 : headRight n q v start l ≡ false → false ≡ heldRight n q v start l
   unfolding heldRight
@@ -46,11 +50,11 @@ module _ (n q v start : ℕ) (l : List ℕ) where
   held-2 e f = rw (e, f)
 
   pub held-3 : v ≤ mostValues → headRight n q v start l ≡ true → roomRight n v (getD l 4 0) (getD l 5 0) (take rowsSize (drop headSize l)) ≡ true
-      → (b : Bool) → b ≡ allBelow (1 * 2 ^ v % 2 ^ 32) (take (openingPlace + n - openingPlace) (drop openingPlace l)) → b ≡ heldRight n q v start l
+      → (t : ℕ) → t ≡ 2 ^ min v width → (b : Bool) → b ≡ allBelow t (take (openingPlace + n - openingPlace) (drop openingPlace l)) → b ≡ heldRight n q v start l
   unfolding heldRight rowsOf
-  held-3 h e f b g =
+  held-3 h e f t i b g =
       let z : openingPlace + n - openingPlace ≡ n = omega arith in
-      g ∙ ap₂ (λ (t j : ℕ). allBelow t (take j (drop openingPlace l))) (shl-one 32 v (omega arith)) z
+      g ∙ ap₂ (λ (t j : ℕ). allBelow t (take j (drop openingPlace l))) (i ∙ few-bound v h) z
       ∙ sym (masks-below v (take n (drop openingPlace l))) ∙ rw (e, f)
 
 -- one row

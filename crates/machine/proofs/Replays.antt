@@ -1,11 +1,12 @@
 -- The replay of the entries upon lent masks and limits, one law for each step of the code. Assumes nothing.
 use mathlib.Core.Path.{_≡_, refl, sym, ap, _∙_}
-use mathlib.Core.Bool.{true}
+use mathlib.Core.Bool.{true, _&&_}
 use mathlib.Core.List.{List, [], _∷_, _++_, append-nil}
-use Prim.Native.Nat.{ℕ, _+_, _*_, _-_, _≤_, _<_, min}
+use Prim.Native.Nat.{ℕ, _+_, _*_, _^_, _-_, _≤_, _<_, min}
 use native.Mathlib.Omega.{arith}
 use native.Mathlib.Numerals.{add-one}
-use lib.Bits.{bitAnd}
+use Rattle.kinds.specs.Bits.{width, bit, maskOf}
+use Rattle.kinds.proofs.Bits.{meet-mask}
 use lib.ListN.{length, getD, set, take, drop, length-drop}
 use borrow.Author.Tests.{eq-eqb, ne-eqb}
 use Rattle.meaning.specs.Meaning.{Place, places, decides}
@@ -17,9 +18,10 @@ use Rattle.ledger.proofs.Numbers.{tail-is, part-long}
 use Rattle.machine.specs.Inner.{RowSafe, RowsSafe, Replayable}
 
 module _ (k p x : ℕ) (ms ls : List ℕ) where
-  pub apply-keep : k ≡ keepKind → places (set ms p (bitAnd (getD ms p 0) x)) ls ≡ decides (places ms ls) (standing (entryOf k p x ∷ []))
+  pub apply-keep : k ≡ keepKind → getD ms p 0 < 2 ^ width → x < 2 ^ width → (y : ℕ) → y ≡ maskOf (λ u. bit (getD ms p 0) u && bit x u) width
+      → places (set ms p y) ls ≡ decides (places ms ls) (standing (entryOf k p x ∷ []))
   unfolding entryOf standing decides
-  apply-keep e = rw (eq-eqb k keepKind e) (sym (keep-stored ms ls p x))
+  apply-keep e a b y f = rw (eq-eqb k keepKind e, f, ← meet-mask width (getD ms p 0) x a b) (sym (keep-stored ms ls p x))
 
   pub apply-limit : (k ≡ keepKind → ⊥) → k ≡ limitKind → (y : ℕ) → y ≡ min (getD ls p 0) x
       → places ms (set ls p y) ≡ decides (places ms ls) (standing (entryOf k p x ∷ []))

@@ -8,6 +8,7 @@ ghost use Rattle.ledger.specs.Memory.{headRight, roomRight, heldRight};
 use crate::layout;
 use crate::lists;
 use crate::rows;
+use kinds::Mask;
 use rules::Size;
 
 // Whether the sizes held are those handed in, both counts are in range, and zeros follow.
@@ -78,5 +79,5 @@ pub(crate) fn held_right(places: usize, size: Size, held: &[u32]) -> bool
         return false;
     }
     let end = layout::OPENING + places;
-    lists::all_below(&held[layout::OPENING..end], 1u32 << values)
+    lists::all_below(&held[layout::OPENING..end], Mask::bound(values))
 }

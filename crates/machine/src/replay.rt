@@ -11,6 +11,7 @@ ghost use Rattle.ledger.specs.Memory.{entryOf, entriesAt, entriesOf, openingAt,
 ghost use Rattle.machine.specs.Inner.{RowSafe, RowsSafe, Replayable};
 use crate::layout;
 use crate::lists;
+use kinds::Mask;
 use rules::numbers::lesser;
 
 // One entry applied: the meet of both masks, or the smaller of both limits.
@@ -19,7 +20,7 @@ fn apply_row(kind: u32, place: usize, amount: u32, masks: &mut [u16], limits: &m
     ensures { λ _. ⌜ placesOf (now (masks .exit)) (now (limits .exit)) ≡ decides (placesOf (now (masks .entry)) (now (limits .entry))) (standing (entryOf kind place amount ∷ [])) ⌝ }
 {
     if kind == layout::KEEP {
-        masks[place] = masks[place] & (amount as u16);
+        masks[place] = Mask(masks[place]).meet(Mask(amount as u16)).0;
         return;
     }
     if kind == layout::LIMIT {

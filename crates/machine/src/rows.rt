@@ -7,6 +7,7 @@ ghost use Rattle.ledger.specs.Sessions.{isMark, marks};
 ghost use Rattle.ledger.specs.Layout.{mostEntries, rowsSize};
 ghost use Rattle.ledger.specs.Memory.{rowRight, rowsRight, entryOf, entriesAt};
 use crate::layout;
+use kinds::Mask;
 
 // Whether an entry's three numbers are in range.
 pub(crate) fn row_right(places: usize, values: usize, kind: u32, place: u32, amount: u32) -> bool
@@ -17,7 +18,7 @@ pub(crate) fn row_right(places: usize, values: usize, kind: u32, place: u32, amo
         if (place as usize) >= places {
             return false;
         }
-        return amount < 1u32 << values;
+        return amount < Mask::bound(values);
     }
     if kind == layout::LIMIT {
         return (place as usize) < places;

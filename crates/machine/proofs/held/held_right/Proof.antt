@@ -47,17 +47,14 @@ part-all-below-start c = search needs
 part-all-below-end : tie.Need-part-all-below-end
 part-all-below-end c = search needs
 
-cast-all-below : tie.Need-cast-all-below
-cast-all-below c = search needs
-
-shl-all-below : tie.Need-shl-all-below
-shl-all-below c = search needs
+bound-requires : tie.Need-bound-requires
+bound-requires c κs = search needs
 
 all-below-requires : tie.Need-all-below-requires
 all-below-requires c κs = search needs
 
 returns-3 : tie.Need-returns-3
-returns-3 c = held-3 _ _ _ _ _ (c .before .before .before .before .before .before .before .before .before .before .pre .1) (test-passed (c .before .before .before .before .before .before .before .before .head-right .ensures) (c .before .before .before .before .before .before .before .if1 .left)) (test-passed (c .before .before .before .room-right .ensures) (c .before .before .if2 .left)) _ (c .all-below .ensures)
+returns-3 c = held-3 _ _ _ _ _ (c .before .before .before .before .before .before .before .before .before .before .before .pre .1) (test-passed (c .before .before .before .before .before .before .before .before .before .head-right .ensures) (c .before .before .before .before .before .before .before .before .if1 .left)) (test-passed (c .before .before .before .before .room-right .ensures) (c .before .before .before .if2 .left)) _ (c .before .bound .ensures) _ (c .all-below .ensures)
 
 pub held-right-spec : {M : Type 1} → statement M
 held-right-spec =
@@ -76,7 +73,6 @@ held-right-spec =
     sub-all-below
     part-all-below-start
     part-all-below-end
-    cast-all-below
-    shl-all-below
+    bound-requires
     all-below-requires
     returns-3)

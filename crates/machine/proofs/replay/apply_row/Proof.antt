@@ -1,28 +1,33 @@
+use native.Mathlib.Omega.{arith}
 use Rattle.machine.proofs.Replays.{apply-keep, apply-limit, apply-mark}
 use borrow.Author.Needs.{needs}
 use Rattle.machine.proofs.replay.apply_row.Statement.{statement}
 use Rattle.machine.proofs.replay.apply_row.Tie as tie
 
+mul-t8 : tie.Need-mul-t8
+mul-t8 c = let h = c .before .before .before .pre .keep-there (c .if1 .taken) in search needs
+
+slice-read-t10 : tie.Need-slice-read-t10
+slice-read-t10 c = let h = c .before .before .before .before .pre .keep-there (c .before .if1 .taken) in search needs
+
+cast-t12 : tie.Need-cast-t12
+cast-t12 c = let h = c .before .before .before .before .pre .keep-narrow (c .before .if1 .taken) in search needs
+
+meet-requires : tie.Need-meet-requires
+meet-requires c κs = search needs
+
 mul-masks : tie.Need-mul-masks
-mul-masks c = let h = c .before .before .before .pre .keep-there (c .if1 .taken) in search needs
-
-slice-read-masks : tie.Need-slice-read-masks
-slice-read-masks c = let h = c .before .before .before .before .pre .keep-there (c .before .if1 .taken) in search needs
-
-cast-masks : tie.Need-cast-masks
-cast-masks c = let h = c .before .before .before .before .pre .keep-narrow (c .before .if1 .taken) in search needs
-
-mul-masks-2 : tie.Need-mul-masks-2
-mul-masks-2 c = let h = c .before .before .before .before .pre .keep-there (c .before .if1 .taken) in search needs
+mul-masks c = let h = c .before .before .before .before .before .pre .keep-there (c .before .before .if1 .taken) in search needs
 
 slice-write-masks : tie.Need-slice-write-masks
-slice-write-masks c = let h = c .before .before .before .before .pre .keep-there (c .before .if1 .taken) in search needs
+slice-write-masks c = let h = c .before .before .before .before .before .pre .keep-there (c .before .before .if1 .taken) in search needs
 
 same-length : tie.Need-same-length
 same-length c = search needs
 
 returns : tie.Need-returns
-returns c = apply-keep _ _ _ _ _ (c .before .if1 .taken)
+returns c = let h = c .before .before .before .before .before .pre .keep-there (c .before .before .if1 .taken) in
+    apply-keep _ _ _ _ _ (c .before .before .if1 .taken) (omega (arith, c .before .slice-known3 .given (c .before .before .before .before .before .args .place))) (c .before .before .before .before .before .pre .keep-narrow (c .before .before .if1 .taken)) _ (c .meet .ensures)
 
 mul-lesser : tie.Need-mul-lesser
 mul-lesser c = let h = c .before .before .before .before .pre .limit-there (c .if2 .taken) in search needs
@@ -52,10 +57,11 @@ pub apply-row-spec : {M : Type 1} → statement M
 apply-row-spec =
     tie.close
     (tie.spec
+    mul-t8
+    slice-read-t10
+    cast-t12
+    meet-requires
     mul-masks
-    slice-read-masks
-    cast-masks
-    mul-masks-2
     slice-write-masks
     same-length
     returns

@@ -1,11 +1,10 @@
-use native.Mathlib.Omega.{arith}
 use mathlib.Core.Path.{sym, ap, _∙_}
 use mathlib.Core.Bool.{Bool, _&&_}
 use Prim.Native.Nat.{ℕ}
 use lib.Dec.{ltb, eqb}
 use borrow.Author.Tests.{eq-eqb, ne-eqb}
-use Rattle.kinds.proofs.Bits.{shl-one}
 use Rattle.ledger.proofs.Entries.{row-far, row-keep, row-limit, row-other, row-mark}
+use Rattle.machine.proofs.Ranges.{few-bound}
 use borrow.Author.Needs.{needs}
 use Rattle.machine.proofs.rows.row_right.Statement.{statement}
 use Rattle.machine.proofs.rows.row_right.Tie as tie
@@ -13,14 +12,11 @@ use Rattle.machine.proofs.rows.row_right.Tie as tie
 returns : tie.Need-returns
 returns c = row-far _ _ _ _ _ (c .before .if1 .taken) (c .if2 .taken)
 
-cast-result : tie.Need-cast-result
-cast-result c = search needs
-
-shl-result : tie.Need-shl-result
-shl-result c = search needs
+bound-requires : tie.Need-bound-requires
+bound-requires c κs = search needs
 
 returns-2 : tie.Need-returns-2
-returns-2 c = ap (λ (t : ℕ). ltb (c .before .before .args .amount) t) (shl-one 32 (c .before .before .args .values) (omega arith)) ∙ sym (row-keep _ _ _ _ _ (c .before .if1 .taken) (c .if2 .left))
+returns-2 c = ap (λ (t : ℕ). ltb (c .before .before .before .args .amount) t) (c .bound .ensures ∙ few-bound _ (c .before .before .before .pre)) ∙ sym (row-keep _ _ _ _ _ (c .before .before .if1 .taken) (c .before .if2 .left))
 
 returns-3 : tie.Need-returns-3
 returns-3 c = row-limit _ _ _ _ _ (c .before .if1 .left) (c .if3 .taken)
@@ -36,5 +32,4 @@ returns-6 c = sym (ap (λ (b : Bool). b && eqb (c .before .before .before .befor
 
 pub row-right-spec : {M : Type 1} → statement M
 row-right-spec =
-    tie.close
-    (tie.spec returns cast-result shl-result returns-2 returns-3 returns-4 returns-5 returns-6)
+    tie.close (tie.spec returns bound-requires returns-2 returns-3 returns-4 returns-5 returns-6)
