@@ -4,12 +4,13 @@ use mathlib.Core.Bool.{Bool, true, false}
 use mathlib.Core.List.{List, [], _∷_, _++_, map}
 use Prim.Native.Nat.{ℕ, zero, suc, _*_, _≤_, _<_}
 use native.Mathlib.Omega.{arith}
-use lib.ListN.{length, take, drop}
+use lib.ListN.{length, getD, take, drop, List·getD-append}
+use lib.Seq.{length-take-le, getD-take}
 use borrow.Author.Tests.{lt-ltb, eq-eqb}
 use Rattle.meaning.specs.Meaning.{Rules, rulesOf}
 use Rattle.meaning.specs.Lists.{from, each}
 use Rattle.meaning.specs.Bounds.{tableSize}
-use Rattle.rules.specs.Checks.{RulesAlike, sizeRight, tablesLong, rulesRight}
+use Rattle.rules.specs.Checks.{handed, RulesAlike, OneRuleSet, sizeRight, tablesLong, rulesRight}
 use Rattle.rules.specs.Answers.{check, decided}
 use Rattle.rules.proofs.Checks.{both, size-of, size-last, long-tables, arcs-few}
 use Rattle.rules.specs.declared.Size.{Size}
@@ -98,6 +99,43 @@ one-text text xs ys n q v s a t c e = go (tablesLong xs ys) refl (readSheet text
 -- so each rule set has one text
 pub texts-same : (text other xs ys : List ℕ) (n q v s a : ℕ) (t c : List ℕ) → readOf text xs ys ≡ readLeft 0 n q v s a t c → readOf other xs ys ≡ readLeft 0 n q v s a t c → text ≡ other
 texts-same text other xs ys n q v s a t c e f = one-text text xs ys n q v s a t c e .is-text ∙ sym (one-text other xs ys n q v s a t c f .is-text)
+
+-- ONE SHEET, READ INTO TWO TABLES, IS ONE RULE SET, handed in twice
+front : (n k : ℕ) (xs ys : List ℕ) → k < n → n ≤ length xs → getD (take n xs ++ ys) k 0 ≡ getD xs k 0
+front n k xs ys h l = List·getD-append (take n xs) ys 0 k (omega (arith, length-take-le n xs l)) ∙ getD-take n xs k 0 h
+
+pub one-sheet : (text xs ys us ws : List ℕ) (places m n q v s a q' v' s' a' : ℕ) (t c t' c' : List ℕ)
+    → readOf text xs ys ≡ readLeft 0 m q v s a t c → readOf text us ws ≡ readLeft 0 n q' v' s' a' t' c'
+    → OneRuleSet (handed places q v s t c a) (handed places q' v' s' t' c' a')
+unfolding rulesRight
+one-sheet text xs ys us ws places m n q v s a q' v' s' a' t c t' c' e f =
+    let w = one-text text xs ys m q v s a t c e in
+    let x = one-text text us ws n q' v' s' a' t' c' f in
+    let p = both (sizeRight q v s) _ (w .right) in
+    let long = both (tablesLong t c) _ (p .1) .0 in
+    let l = long-tables t c long in
+    let l' = long-tables t' c' (both (tablesLong t' c') _ (both (sizeRight q' v' s') _ (x .right) .1) .0) in
+    let z = size-of q v s (p .0) in
+    let few : q * v ≤ tableSize = arcs-few (z .few-states) (z .few-values) in
+    let same : readLeft 0 0 q v s a (take (q * v) t ++ drop (q * v) t) (take (q * v) c ++ drop (q * v) c)
+    ≡ readLeft 0 0 q' v' s' a' (take (q' * v') t' ++ drop (q' * v') t) (take (q' * v') c' ++ drop (q' * v') c) =
+    sym (reads-back q v s t c a t c (w .right) long) ∙ (ap (λ (b : List ℕ). readOf b t c) (sym (w .is-text) ∙ x .is-text) ∙ reads-back q' v' s' t' c' a' t c (x .right) long) in
+    let eq : q ≡ q' = ap (λ o. o .states) same in
+    let ev : v ≡ v' = ap (λ o. o .values) same in
+    let ep : q * v ≡ q' * v' = ap₂ (λ (i j : ℕ). i * j) eq ev in
+    record {
+      places = refl;
+      start = ap (λ o. o .start) same;
+      rules = record {
+        states = eq;
+        values = ev;
+        accepting = ap (λ o. o .accepting) same;
+        targets = λ k h. sym (front (q * v) k t _ h (omega (arith, l .0))) ∙ (ap (λ o. getD (o .targets) k 0) same ∙ front (q' * v') k t' _ (omega arith) (omega (arith, l' .0)));
+        costs = λ k h. sym (front (q * v) k c _ h (omega (arith, l .1))) ∙ (ap (λ o. getD (o .costs) k 0) same ∙ front (q' * v') k c' _ (omega arith) (omega (arith, l' .1)));
+      };
+      targets-long = l .0 ∙ sym (l' .0);
+      costs-long = l .1 ∙ sym (l' .1);
+    }
 
 -- Places from Q × V on play no part in it
 module _ (r u : Rules) (alike : RulesAlike r u) where
