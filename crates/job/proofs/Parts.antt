@@ -6,6 +6,7 @@ use Prim.Native.Nat.{ℕ, suc, _+_, _≤_, _<_}
 use native.Mathlib.Numerals.{add-one}
 use native.Mathlib.Omega.{arith}
 use lib.Dec.{eqb}
+use borrow.Author.Tests.{eq-eqb, ne-eqb}
 use lib.ListN.{length, getD, take, drop, drop-of-length-le}
 use lib.Seq.{drop-cons, take-suc}
 use Rattle.text.specs.Bytes.{feed}
@@ -51,8 +52,8 @@ left-all s = record { inside = omega arith; finds = refl; sheet = refl; job = re
 
 module _ (s : List ℕ) (i : ℕ) (start : Bool) (l : Left s i start) where
   -- the empty line
-  pub left-here : i < length s → (start && eqb (getD s i 0) feed) ≡ true → CutAt s true i (i + 1)
-  left-here h e = record {
+  pub left-here : i < length s → getD s i 0 ≡ feed → start ≡ true → CutAt s true i (i + 1)
+  left-here h b f = let e : (start && eqb (getD s i 0) feed) ≡ true = rw (f, eq-eqb (getD s i 0) feed b) in record {
     sheet-inside = omega arith;
     job-inside = omega arith;
     finds = sym (l .finds ∙ (ap (parted start) (drop-cons s i 0 h) ∙ parted-stop start _ _ e));
@@ -61,7 +62,7 @@ module _ (s : List ℕ) (i : ℕ) (start : Bool) (l : Left s i start) where
   }
 
   -- any other byte
-  pub left-on : i < length s → (start && eqb (getD s i 0) feed) ≡ false → Left s (i + 1) (eqb (getD s i 0) feed)
+  left-on : i < length s → (start && eqb (getD s i 0) feed) ≡ false → Left s (i + 1) (eqb (getD s i 0) feed)
   left-on h e = record {
     inside = omega arith;
     finds = l .finds ∙ (ap (parted start) (drop-cons s i 0 h) ∙ (parted-on start _ _ e ∙ ap (λ (k : ℕ). parted (eqb (getD s i 0) feed) (drop k s)) (sym (add-one i))));
@@ -71,6 +72,16 @@ module _ (s : List ℕ) (i : ℕ) (start : Bool) (l : Left s i start) where
     where
       more : take i s ++ (getD s i 0 ∷ before (eqb (getD s i 0) feed) (drop (suc i) s)) ≡ take (i + 1) s ++ before (eqb (getD s i 0) feed) (drop (i + 1) s)
       more = rw (add-one i, take-suc s i 0) (sym (append-assoc (take i s) (getD s i 0 ∷ []) _))
+
+  pub left-feed : (next : Bool) → i < length s → getD s i 0 ≡ feed → start ≡ false → next ≡ true → Left s (i + 1) next
+  left-feed next h e f n = rw (n, ← eq-eqb (getD s i 0) feed e) (left-on h (rw f))
+
+  pub left-other : (next : Bool) → i < length s → (getD s i 0 ≡ feed → ⊥) → next ≡ false → Left s (i + 1) next
+  left-other next h e n = let x : eqb (getD s i 0) feed ≡ false = ne-eqb (getD s i 0) feed e in rw (n, ← x) (left-on h (rw x (go start)))
+    where
+      go : (t : Bool) → (t && false) ≡ false
+      go true = refl
+      go false = refl
 
   -- the end of the input
   pub left-none : length s ≤ i → CutAt s false i i

@@ -42,7 +42,7 @@ pub(crate) fn highest(values: usize) -> u32
 pub(crate) fn days_line(line: &[u8]) -> Days
     ensures { λ r. ⌜ daysView r ≡ readDays (now (line .entry)) ⌝ }
 {
-    if !begins(line, b"days\t") {
+    if !begins(line, b"days") {
         return Days::Wrong(Fault::Form);
     }
     let n = number_at(line, 5, 1, MOST_DAYS);
@@ -101,10 +101,10 @@ pub(crate) fn asked_of(line: &[u8], places: usize, values: usize) -> Asked
     requires { ⌜ (1 ≤ places) × (places ≤ mostDays) × (values ≤ mostValues) ⌝ }
     ensures { λ r. ⌜ AskedAt (readDecision places values (now (line .entry))) places r ⌝ }
 {
-    if begins(line, b"keep\t") {
+    if begins(line, b"keep") {
         return keep_line(line, places, values);
     }
-    if begins(line, b"limit\t") {
+    if begins(line, b"limit") {
         return limit_line(line, places);
     }
     Asked::Wrong(Fault::Form)

@@ -1,5 +1,7 @@
 // The input's two parts.
 ghost use Rattle.job.specs.Inner.{CutAt};
+use text::bytes::Sort;
+use text::bytes::sort_of;
 
 // Where the sheet ends and the job begins, if there is an empty line between them.
 pub(crate) struct Cut {
@@ -15,15 +17,22 @@ pub(crate) fn cut_at(input: &[u8]) -> Cut
     let mut start = true;
     let mut i: usize = 0;
     while i < input.len() {
-        let feed = input[i] == b'\n';
-        if start & feed {
-            return Cut {
-                found: true,
-                sheet: i,
-                job: i + 1,
-            };
+        let c = sort_of(input[i]);
+        match c {
+            Sort::Feed => {
+                if start {
+                    return Cut {
+                        found: true,
+                        sheet: i,
+                        job: i + 1,
+                    };
+                }
+                start = true;
+            }
+            _ => {
+                start = false;
+            }
         }
-        start = feed;
         i += 1;
     }
     Cut {

@@ -34,7 +34,7 @@ pub(crate) enum Row {
 pub(crate) fn size_line(line: &[u8]) -> Top
     ensures { λ r. ⌜ topView r ≡ readSize (now (line .entry)) ⌝ }
 {
-    if !begins(line, b"size\t") {
+    if !begins(line, b"size") {
         return Top::Wrong(Fault::Form);
     }
     let a = field_at(line, 5, 1, bounds::MOST_STATES as u32);
@@ -121,10 +121,10 @@ pub(crate) fn row_of(line: &[u8], size: Size, next: usize) -> Row
     requires { ⌜ Sized size ⌝ }
     ensures { λ r. ⌜ rowView r ≡ readLine size next (now (line .entry)) ⌝ }
 {
-    if begins(line, b"final\t") {
+    if begins(line, b"final") {
         return final_line(line, size, next);
     }
-    if begins(line, b"arc\t") {
+    if begins(line, b"arc") {
         return arc_line(line, size, next);
     }
     Row::Wrong(Fault::Form)

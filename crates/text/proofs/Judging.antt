@@ -1,7 +1,7 @@
 -- Laws of a line's judgement. Assumes nothing.
 use mathlib.Core.Path.{_≡_, refl, ap, sym, _∙_}
 use mathlib.Core.Logic.{⊎-elim}
-use mathlib.Core.Bool.{Bool, true, false, cond}
+use mathlib.Core.Bool.{Bool, true, false, cond, _&&_}
 use mathlib.Core.List.{List, [], _∷_, _++_}
 use Prim.Native.Nat.{ℕ, suc, _+_, _≤_, _<_}
 use native.Mathlib.Omega.{arith}
@@ -11,10 +11,11 @@ use lib.Dec.{eqb}
 use lib.ListN.{length, getD, drop, length-append, drop-of-length-le}
 use lib.Seq.{drop-cons}
 use borrow.Author.Tests.{eq-eqb, ne-eqb, eqb-true}
-use Rattle.rules.proofs.Checks.{never}
-use Rattle.text.specs.Bytes.{feed}
+use Rattle.meaning.specs.Lists.{all}
+use Rattle.rules.proofs.Checks.{both, never}
+use Rattle.text.specs.Bytes.{tab, feed, isSmall}
 use Rattle.text.specs.Numbers.{Field, number, malformed, outside, readNumber, readField}
-use Rattle.text.specs.Lines.{Judged, right, wrong, Stripped, rest, other, strip, onStrip, onField, ending, sealed, close}
+use Rattle.text.specs.Lines.{Judged, right, wrong, Stripped, rest, other, strip, stripWord, onStrip, onField, ending, sealed, close}
 use Rattle.text.specs.Inner.{NumberAt, numberFault, stripView}
 use Rattle.text.specs.declared.lines.Fault.the-variants.{Form, Order, Cut}
 use Rattle.text.specs.declared.lines.End.{End}
@@ -107,11 +108,29 @@ field-range lo hi y s r n v end e =
 pub sealed-is : {A : Type 0} (a : A) (x y e : End) → e ≡ x → e ≡ y → sealed a x ≡ sealed a y
 sealed-is a x y e h k = ap (sealed a) (sym h ∙ k)
 
-pub begins-true : (t w : List ℕ) (r : Bool) → stripView t (length w) r ≡ strip w t → r ≡ true → strip w t ≡ rest (drop (length w) t)
-begins-true t w r e h = sym e ∙ ap (stripView t (length w)) h
+-- a word of small letters, and the tab behind it
+pub word-strip : (w s : List ℕ) → all isSmall w ≡ true → stripWord w s ≡ strip (w ++ tab ∷ []) s
+unfolding strip stripWord
+word-strip [] [] h = refl
+word-strip [] (c ∷ s) h = refl
+word-strip (b ∷ w) [] h = refl
+word-strip (b ∷ w) (c ∷ s) h = go (eqb c b) refl (isSmall c) refl (λ l. word-strip w s l)
+  where
+    parts : (isSmall b ≡ true) × (all isSmall w ≡ true)
+    parts = both (isSmall b) (all isSmall w) h
 
-pub begins-false : (t w : List ℕ) (r : Bool) → stripView t (length w) r ≡ strip w t → r ≡ false → strip w t ≡ other
-begins-false t w r e h = sym e ∙ ap (stripView t (length w)) h
+    go : (t : Bool) → eqb c b ≡ t → (u : Bool) → isSmall c ≡ u → (all isSmall w ≡ true → stripWord w s ≡ strip (w ++ tab ∷ []) s) → cond (isSmall c && eqb c b) (stripWord w s) other ≡ cond (eqb c b) (strip (w ++ tab ∷ []) s) other
+    go true e true f rec = rw (f, e) (rec (parts .1))
+    go true e false f rec = let x : c ≡ b = eqb-true c b e in let y : isSmall b ≡ false = rw x at f in never cc
+    go false e true f rec = rw (f, e)
+    go false e false f rec = rw (f, e)
+
+module _ (t w : List ℕ) (r : Bool) (e : stripView t (length w + 1) r ≡ stripWord w t) (l : all isSmall w ≡ true) where
+  pub begins-true : r ≡ true → strip (w ++ tab ∷ []) t ≡ rest (drop (length w + 1) t)
+  begins-true h = sym (word-strip w t l) ∙ (sym e ∙ ap (stripView t (length w + 1)) h)
+
+  pub begins-false : r ≡ false → strip (w ++ tab ∷ []) t ≡ other
+  begins-false h = sym (word-strip w t l) ∙ (sym e ∙ ap (stripView t (length w + 1)) h)
 
 pub begins-length : (t w x : List ℕ) → strip w t ≡ rest x → length w ≤ length t
 begins-length t w x e = let h : length t ≡ length w + length x = ap length (strip-read w t x e) ∙ length-append w x in omega arith

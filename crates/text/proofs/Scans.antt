@@ -3,20 +3,20 @@ use mathlib.Core.Path.{_≡_, refl, ap, sym, _∙_, subst}
 use mathlib.Core.Logic.{_⊎_, ⊎-elim}
 use mathlib.Core.Bool.{Bool, true, false, cond, not, _&&_}
 use mathlib.Core.List.{List, [], _∷_, _++_}
-use Prim.Native.Nat.{ℕ, _+_, _-_, _*_, _≤_, _<_, min}
+use Prim.Native.Nat.{ℕ, suc, _+_, _-_, _*_, _≤_, _<_, min}
 use native.Mathlib.Numerals.{add-one}
 use native.Mathlib.Omega.{arith}
 use types.Run.{OneOf, miss}
 use lib.Dec.{T, leb, eqb}
 use mir.Val.{hasKey}
 use denote.Enum.Declared.{tagOf}
-use lib.ListN.{length, getD, drop, length-append, length-drop, drop-of-length-le, List·getD-append}
-use lib.Seq.{drop-cons, getD-drop, drop-length}
+use lib.ListN.{length, getD, drop, length-append, length-drop, drop-of-length-le}
+use lib.Seq.{drop-cons}
 use borrow.Author.Tests.{le-leb, lt-leb, eq-eqb, ne-eqb, leb-true, eqb-true}
 use Rattle.rules.proofs.Checks.{both, never}
-use Rattle.text.specs.Bytes.{tab, feed, nought, isDigit, sortOf}
+use Rattle.text.specs.Bytes.{tab, feed, nought, isDigit, isSmall, sortOf}
 use Rattle.text.specs.Numbers.{digits, past, value, plain, fieldEnd, Field, number, malformed, outside, readNumber, tabbed}
-use Rattle.text.specs.Lines.{rest, other, strip}
+use Rattle.text.specs.Lines.{rest, other, stripWord}
 use Rattle.text.specs.Inner.{Ended, RunAt, numberView, numberIn, NumberAt}
 use Rattle.text.specs.declared.bytes.Sort.{Sort}
 use Rattle.text.specs.declared.bytes.Sort.the-variants.{Digit, Tab, Feed, Small, Other}
@@ -101,6 +101,24 @@ not-digit-sort b e = go (isDigit b) refl
     go true h = let w : (leb 48 b ≡ true) × (leb b 57 ≡ true) = both _ _ h in absurd (e (sym (sort-digit b (leb-true 48 b (w .0)) (leb-true b 57 (w .1)))))
     go false h = h
 
+pub small-sort : (b : ℕ) → sortOf b ≡ Small → isSmall b ≡ true
+unfolding sortOf
+small-sort b e = go (isDigit b) (eqb b tab) (eqb b feed) (isSmall b) refl e
+  where
+    go : (w x y z : Bool) → isSmall b ≡ z → cond w Digit (cond x Tab (cond y Feed (cond z Small Other))) ≡ Small → isSmall b ≡ true
+    go true x y z h e = never cc
+    go false true y z h e = never cc
+    go false false true z h e = never cc
+    go false false false true h e = h
+    go false false false false h e = never cc
+
+pub not-small-sort : (b : ℕ) → (Small ≡ sortOf b → ⊥) → isSmall b ≡ false
+not-small-sort b n = go (isSmall b) refl
+  where
+    go : (t : Bool) → isSmall b ≡ t → isSmall b ≡ false
+    go true h = let w : (leb 97 b ≡ true) × (leb b 122 ≡ true) = both _ _ h in absurd (n (sort-small b (leb-true 97 b (w .0)) (leb-true b 122 (w .1))))
+    go false h = h
+
 -- a match on a sort goes by its tag: one of some tags is none of the others
 pub other-tag : (ks : List ℕ) (b : ℕ) (c d : Sort) → c ≡ sortOf b → T (not (hasKey ks (tagOf the-type d))) → OneOf ks (tagOf the-type c) → d ≡ sortOf b → ⊥
 other-tag ks b c d e h o f = let k : c ≡ d = e ∙ sym f in miss ks (tagOf the-type d) h (rw k at o)
@@ -180,40 +198,34 @@ ended-length s at end e =
     let k : end ≤ length s = e .high in
     omega arith
 
-plain-none : (ds : List ℕ) → length ds ≡ 0 → false ≡ plain ds
+plain-some : (d : ℕ) (ds : List ℕ) → (d ≡ nought → ⊥) → true ≡ plain (d ∷ ds)
 unfolding plain
-plain-none [] h = refl
-plain-none (d ∷ ds) h = absurd (omega arith)
+plain-some d [] n = refl
+plain-some d (e ∷ ds) n = rw (ne-eqb d nought n)
 
-plain-one : (ds : List ℕ) → length ds ≡ 1 → true ≡ plain ds
+plain-zero : (d : ℕ) (ds : List ℕ) (at end : ℕ) → d ≡ nought → suc (length ds) ≡ end - at → eqb end (at + 1) ≡ plain (d ∷ ds)
 unfolding plain
-plain-one [] h = absurd (omega arith)
-plain-one (d ∷ []) h = refl
-plain-one (d ∷ e ∷ ds) h = absurd (omega arith)
+plain-zero d [] at end e l = eq-eqb end (at + 1) (omega arith)
+plain-zero d (f ∷ ds) at end e l = rw (eq-eqb d nought e) (ne-eqb end (at + 1) (λ x. omega arith))
 
-plain-many : (ds : List ℕ) → 2 ≤ length ds → not (eqb (getD ds 0 0) nought) ≡ plain ds
-unfolding plain
-plain-many [] h = absurd (omega arith)
-plain-many (d ∷ []) h = absurd (omega arith)
-plain-many (d ∷ c ∷ ds) h = refl
+module _ (s : List ℕ) (at : ℕ) where
+  pub plain-at-end : length s ≤ at → false ≡ plain (digits (drop at s))
+  unfolding digits plain
+  plain-at-end h = rw (drop-of-length-le s {i = at} h)
 
-first-digit : (s : List ℕ) (at : ℕ) → 1 ≤ length (digits (drop at s)) → getD (digits (drop at s)) 0 0 ≡ getD s at 0
-first-digit s at h =
-    let z : at + 0 ≡ at = omega arith in
-    sym (List·getD-append (digits (drop at s)) (past (drop at s)) 0 0 h) ∙ rw (digits-past (drop at s), getD-drop at s 0 0, z)
+  pub plain-at-other : at < length s → (Digit ≡ sortOf (getD s at 0) → ⊥) → false ≡ plain (digits (drop at s))
+  unfolding plain
+  plain-at-other h n = rw (digits-stop s at h (not-digit-sort (getD s at 0) (λ e. n (sym e))))
 
-module _ (s : List ℕ) (at end : ℕ) (e : Ended s at end) where
-  pub plain-at-none : end ≡ at → false ≡ plain (digits (drop at s))
-  plain-at-none h = plain-none _ (ended-length s at end e ∙ omega arith)
+  pub plain-at-lead : at < length s → sortOf (getD s at 0) ≡ Digit → (getD s at 0 ≡ nought → ⊥) → not (eqb (getD s at 0) nought) ≡ plain (digits (drop at s))
+  plain-at-lead h d n = let w = digit-sort (getD s at 0) d in rw (digits-in s at h (w .0) (w .1), ne-eqb (getD s at 0) nought n) (plain-some (getD s at 0) (digits (drop (at + 1) s)) n)
 
-  pub plain-at-one : end ≡ at + 1 → true ≡ plain (digits (drop at s))
-  plain-at-one h = plain-one _ (ended-length s at end e ∙ omega arith)
-
-  pub plain-at-more : (end ≡ at → ⊥) → (end ≡ at + 1 → ⊥) → not (eqb (getD s at 0) nought) ≡ plain (digits (drop at s))
-  plain-at-more h k =
-      let l : length (digits (drop at s)) ≡ end - at = ended-length s at end e in
-      let w : at ≤ end = e .low in
-      ap (λ (b : ℕ). not (eqb b nought)) (sym (first-digit s at (omega arith))) ∙ plain-many (digits (drop at s)) (omega arith)
+  pub plain-at-zero : (end : ℕ) → Ended s at end → at < length s → sortOf (getD s at 0) ≡ Digit → getD s at 0 ≡ nought → eqb end (at + 1) ≡ plain (digits (drop at s))
+  plain-at-zero end e h d z =
+      let w = digit-sort (getD s at 0) d in
+      let i = digits-in s at h (w .0) (w .1) in
+      let l : suc (length (digits (drop (at + 1) s))) ≡ end - at = ap length (sym i) ∙ ended-length s at end e in
+      rw i (plain-zero (getD s at 0) (digits (drop (at + 1) s)) at end z l)
 
 -- field_ends
 pub ends-end : (s : List ℕ) (i : ℕ) → length s ≤ i → true ≡ fieldEnd (drop i s)
@@ -302,25 +314,40 @@ field-not s x (Value v end) n o = ⊎-elim (λ w. absurd (omega arith)) (λ w. a
 field-not s x Malformed n o = record { reads = rw (malformed-is s x Malformed n refl); inside = tt }
 field-not s x Outside n o = record { reads = rw (outside-is s x Outside n refl); inside = tt }
 
--- word
-pub strip-short : (w t : List ℕ) → length t < length w → other ≡ strip w t
-unfolding strip
-strip-short [] t h = absurd (omega arith)
-strip-short (b ∷ w) [] h = refl
-strip-short (b ∷ w) (c ∷ t) h = go (eqb c b) (strip-short w t (omega arith))
+-- begins
+pub word-short : (w t : List ℕ) → length t ≤ length w → other ≡ stripWord w t
+unfolding stripWord
+word-short [] [] h = refl
+word-short [] (c ∷ t) h = absurd (omega arith)
+word-short (b ∷ w) [] h = refl
+word-short (b ∷ w) (c ∷ t) h = go (isSmall c && eqb c b) (word-short w t (omega arith))
   where
-    go : (x : Bool) → other ≡ strip w t → other ≡ cond x (strip w t) other
+    go : (x : Bool) → other ≡ stripWord w t → other ≡ cond x (stripWord w t) other
     go true e = e
     go false e = refl
 
-pub strip-step : (w t : List ℕ) (k : ℕ) → k < length w → k < length t → getD t k 0 ≡ getD w k 0 → strip (drop k w) (drop k t) ≡ strip (drop (k + 1) w) (drop (k + 1) t)
-unfolding strip
-strip-step w t k h l e = rw (add-one, drop-cons w k 0 h, drop-cons t k 0 l, eq-eqb (getD t k 0) (getD w k 0) e)
+module _ (w t : List ℕ) (k : ℕ) (h : k < length w) (l : k < length t) where
+  pub word-step : sortOf (getD t k 0) ≡ Small → getD t k 0 ≡ getD w k 0 → stripWord (drop k w) (drop k t) ≡ stripWord (drop (k + 1) w) (drop (k + 1) t)
+  unfolding stripWord
+  word-step s e = rw (add-one, drop-cons w k 0 h, drop-cons t k 0 l, small-sort (getD t k 0) s, eq-eqb (getD t k 0) (getD w k 0) e)
 
-pub strip-stop : (w t : List ℕ) (k : ℕ) → k < length w → k < length t → (getD t k 0 ≡ getD w k 0 → ⊥) → strip (drop k w) (drop k t) ≡ other
-unfolding strip
-strip-stop w t k h l e = rw (drop-cons w k 0 h, drop-cons t k 0 l, ne-eqb (getD t k 0) (getD w k 0) e)
+  pub word-letter : (getD t k 0 ≡ getD w k 0 → ⊥) → stripWord (drop k w) (drop k t) ≡ other
+  unfolding stripWord
+  word-letter e = rw (drop-cons w k 0 h, drop-cons t k 0 l, ne-eqb (getD t k 0) (getD w k 0) e) (go (isSmall (getD t k 0)))
+    where
+      go : (x : Bool) → cond (x && false) (stripWord (drop (suc k) w) (drop (suc k) t)) other ≡ other
+      go true = refl
+      go false = refl
 
-pub strip-done : (w t : List ℕ) (k : ℕ) → k ≡ length w → strip (drop k w) (drop k t) ≡ rest (drop (length w) t)
-unfolding strip
-strip-done w t k e = rw (e, drop-length w)
+  pub word-sort : (Small ≡ sortOf (getD t k 0) → ⊥) → stripWord (drop k w) (drop k t) ≡ other
+  unfolding stripWord
+  word-sort n = rw (drop-cons w k 0 h, drop-cons t k 0 l, not-small-sort (getD t k 0) n)
+
+module _ (w t : List ℕ) (k : ℕ) (e : k ≡ length w) (l : k < length t) where
+  pub word-tab : getD t k 0 ≡ tab → stripWord (drop k w) (drop k t) ≡ rest (drop (length w + 1) t)
+  unfolding stripWord
+  word-tab b = rw (← e, add-one, drop-of-length-le w {i = k} (omega arith), drop-cons t k 0 l, b)
+
+  pub word-behind : (getD t k 0 ≡ tab → ⊥) → stripWord (drop k w) (drop k t) ≡ other
+  unfolding stripWord
+  word-behind n = rw (drop-of-length-le w {i = k} (omega arith), drop-cons t k 0 l, ne-eqb (getD t k 0) tab n)

@@ -2,7 +2,7 @@
 use mathlib.Core.Path.{_≡_, refl, sym, ap, _∙_}
 use mathlib.Core.Bool.{Bool, true, false}
 use mathlib.Core.List.{List, _∷_}
-use Prim.Native.Nat.{ℕ, _-_, _≤_, _<_}
+use Prim.Native.Nat.{ℕ, _+_, _-_, _≤_, _<_}
 use native.Mathlib.Decide.{decLt}
 use native.Mathlib.Omega.{arith}
 use lib.ListN.{length, take, drop, length-drop}
@@ -10,7 +10,7 @@ use lib.Seq.{length-take-le}
 use Rattle.rules.proofs.Checks.{never}
 use Rattle.text.specs.Bytes.{sortOf}
 use Rattle.text.specs.Numbers.{Field, number}
-use Rattle.text.specs.Lines.{strip, ending, lines}
+use Rattle.text.specs.Lines.{stripWord, ending, lines}
 use Rattle.text.specs.Inner.{NumberAt, numberFault, stripView, LineEnd}
 use Rattle.text.specs.Writing.{Wrote}
 use Rattle.text.specs.declared.bytes.Sort.{Sort}
@@ -22,11 +22,11 @@ use Rattle.text.specs.declared.numbers.Number.the-variants.{Value, Malfo
 pub sort-of-unique : (b : ℕ) (r s : Sort) → r ≡ sortOf b → s ≡ sortOf b → r ≡ s
 sort-of-unique b r s p q = p ∙ sym q
 
-pub begins-unique : (line word : List ℕ) (r s : Bool) → stripView line (length word) r ≡ strip word line → stripView line (length word) s ≡ strip word line → r ≡ s
+pub begins-unique : (line word : List ℕ) (r s : Bool) → stripView line (length word + 1) r ≡ stripWord word line → stripView line (length word + 1) s ≡ stripWord word line → r ≡ s
 begins-unique line word true true p q = refl
 begins-unique line word false false p q = refl
-begins-unique line word true false p q = let e : stripView line (length word) true ≡ stripView line (length word) false = p ∙ sym q in never cc
-begins-unique line word false true p q = let e : stripView line (length word) false ≡ stripView line (length word) true = p ∙ sym q in never cc
+begins-unique line word true false p q = let e : stripView line (length word + 1) true ≡ stripView line (length word + 1) false = p ∙ sym q in never cc
+begins-unique line word false true p q = let e : stripView line (length word + 1) false ≡ stripView line (length word + 1) true = p ∙ sym q in never cc
 
 pub fault-of-unique : (n : Number) (r s : Fault) → r ≡ numberFault n → s ≡ numberFault n → r ≡ s
 fault-of-unique n r s p q = p ∙ sym q

@@ -20,5 +20,9 @@ nought = 48
 abbrev pub isDigit : ℕ → Bool
 isDigit b = leb nought b && leb b 57
 
+-- a letter from a to z
+abbrev pub isSmall : ℕ → Bool
+isSmall b = leb 97 b && leb b 122
+
 unfoldable pub sortOf : ℕ → Sort
-sortOf b = cond (isDigit b) Digit (cond (eqb b tab) Tab (cond (eqb b feed) Feed (cond (leb 97 b && leb b 122) Small Other)))
+sortOf b = cond (isDigit b) Digit (cond (eqb b tab) Tab (cond (eqb b feed) Feed (cond (isSmall b) Small Other)))

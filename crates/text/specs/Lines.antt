@@ -1,9 +1,9 @@
 -- Lines of fields: a text cut into lines, the word at the front of a line, and the judgement of what follows.
-use mathlib.Core.Bool.{Bool, true, false, cond}
+use mathlib.Core.Bool.{Bool, true, false, cond, _&&_}
 use mathlib.Core.List.{List, [], _∷_}
 use Prim.Native.Nat.{ℕ}
 use lib.Dec.{eqb}
-use Rattle.text.specs.Bytes.{feed}
+use Rattle.text.specs.Bytes.{tab, feed, isSmall}
 use Rattle.text.specs.Numbers.{Field, number, malformed, outside}
 use Rattle.text.specs.declared.lines.Fault.{Fault}
 use Rattle.text.specs.declared.lines.Fault.the-variants.{Form, Range, Order, Cut}
@@ -38,6 +38,13 @@ unfoldable pub strip : List ℕ → List ℕ → Stripped
 strip [] s = rest s
 strip (w ∷ ws) [] = other
 strip (w ∷ ws) (b ∷ s) = cond (eqb b w) (strip ws s) other
+
+-- a word of small letters taken off the front of a line, and then a tab: what `strip` does with the word and its tab (law word-strip)
+unfoldable pub stripWord : List ℕ → List ℕ → Stripped
+stripWord [] [] = other
+stripWord [] (b ∷ s) = cond (eqb b tab) (rest s) other
+stripWord (w ∷ ws) [] = other
+stripWord (w ∷ ws) (b ∷ s) = cond (isSmall b && eqb b w) (stripWord ws s) other
 
 abbrev pub onStrip : {A : Type 0} → Stripped → (List ℕ → A) → A → A
 onStrip (rest s) f a = f s

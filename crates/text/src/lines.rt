@@ -64,10 +64,15 @@ pub fn line_end(text: &[u8], at: usize) -> usize
 {
     let mut i = at;
     while i < text.len() {
-        if text[i] == b'\n' {
-            return i + 1;
+        let c = sort_of(text[i]);
+        match c {
+            Sort::Feed => {
+                return i + 1;
+            }
+            _ => {
+                i += 1;
+            }
         }
-        i += 1;
     }
     i
 }

@@ -46,18 +46,20 @@ pub(crate) fn run_at(line: &[u8], at: usize, most: u32) -> Run
     Run { end: i, value: v }
 }
 
-// Whether the digits from `at` to `end` are at least one, with no zero before another.
+// Whether the digits from `at` to `end` are at least one, with no zero before another: a first digit 0 stands alone.
 pub(crate) fn plain_at(line: &[u8], at: usize, end: usize) -> bool
     requires { ⌜ Ended (now line) at end ⌝ }
     ensures { λ r. ⌜ r ≡ plain (digits (drop at (now (line .entry)))) ⌝ }
 {
-    if end == at {
+    if at == line.len() {
         return false;
     }
-    if end == at + 1 {
-        return true;
+    let b = line[at];
+    let c = sort_of(b);
+    match c {
+        Sort::Digit => b != b'0' || end == at + 1,
+        _ => false,
     }
-    line[at] != b'0'
 }
 
 // Whether a field ends at `end`: there is a tab, a line feed, or nothing.

@@ -1,4 +1,4 @@
-use mathlib.Core.Path.{sym, _∙_}
+use mathlib.Core.Path.{refl, sym, _∙_}
 use Rattle.text.proofs.Judging.{begins-true, begins-false, strip-right, strip-wrong}
 use Rattle.job.specs.Input.{readDecision}
 use borrow.Author.Needs.{needs}
@@ -16,7 +16,7 @@ keep-line-requires c κs = search needs
 
 returns : tie.Need-returns
 unfolding readDecision
-returns c = record { reads = c .keep-line .ensures .reads ∙ sym (strip-right _ _ _ _ _ (begins-true _ _ _ (c .before .before .begins .ensures) (c .before .if1 .taken))); inside = c .keep-line .ensures .inside }
+returns c = record { reads = c .keep-line .ensures .reads ∙ sym (strip-right _ _ _ _ _ (begins-true _ _ _ (c .before .before .begins .ensures) refl (c .before .if1 .taken))); inside = c .keep-line .ensures .inside }
 
 slice-aggregate-begins-2 : tie.Need-slice-aggregate-begins-2
 slice-aggregate-begins-2 c = search needs
@@ -29,11 +29,11 @@ limit-line-requires c κs = search needs
 
 returns-2 : tie.Need-returns-2
 unfolding readDecision
-returns-2 c = record { reads = c .limit-line .ensures .reads ∙ sym (strip-wrong _ _ _ _ (begins-false _ _ _ (c .before .before .before .before .before .begins .ensures) (c .before .before .before .before .if1 .left)) ∙ strip-right _ _ _ _ _ (begins-true _ _ _ (c .before .before .begins2 .ensures) (c .before .if2 .taken))); inside = c .limit-line .ensures .inside }
+returns-2 c = record { reads = c .limit-line .ensures .reads ∙ sym (strip-wrong _ _ _ _ (begins-false _ _ _ (c .before .before .before .before .before .begins .ensures) refl (c .before .before .before .before .if1 .left)) ∙ strip-right _ _ _ _ _ (begins-true _ _ _ (c .before .before .begins2 .ensures) refl (c .before .if2 .taken))); inside = c .limit-line .ensures .inside }
 
 returns-3 : tie.Need-returns-3
 unfolding readDecision
-returns-3 c = record { reads = sym (strip-wrong _ _ _ _ (begins-false _ _ _ (c .before .before .before .before .begins .ensures) (c .before .before .before .if1 .left)) ∙ strip-wrong _ _ _ _ (begins-false _ _ _ (c .before .begins2 .ensures) (c .if2 .left))); inside = tt }
+returns-3 c = record { reads = sym (strip-wrong _ _ _ _ (begins-false _ _ _ (c .before .before .before .before .begins .ensures) refl (c .before .before .before .if1 .left)) ∙ strip-wrong _ _ _ _ (begins-false _ _ _ (c .before .begins2 .ensures) refl (c .if2 .left))); inside = tt }
 
 pub asked-of-spec : {M : Type 1} → statement M
 asked-of-spec =

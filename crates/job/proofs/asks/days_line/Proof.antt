@@ -15,7 +15,7 @@ begins-requires c κs = search needs
 
 returns : tie.Need-returns
 unfolding readDays
-returns c = sym (strip-wrong _ _ _ _ (begins-false _ _ (c .before .begins .result) (c .before .begins .ensures) (test-failed refl (c .if1 .taken))))
+returns c = sym (strip-wrong _ _ _ _ (begins-false _ _ (c .before .begins .result) (c .before .begins .ensures) refl (test-failed refl (c .if1 .taken))))
 
 number-at-requires : tie.Need-number-at-requires
 number-at-requires c κs = search needs
@@ -30,7 +30,7 @@ returns-2 : tie.Need-returns-2
 unfolding readDays
 returns-2 c =
     ap wrong (c .fault-of .ensures)
-    ∙ sym (strip-right _ _ _ _ _ (begins-true _ _ (c .before .before .before .before .begins .result) (c .before .before .before .before .begins .ensures) (test-passed refl (c .before .before .before .if1 .left)))
+    ∙ sym (strip-right _ _ _ _ _ (begins-true _ _ (c .before .before .before .before .begins .result) (c .before .before .before .before .begins .ensures) refl (test-passed refl (c .before .before .before .if1 .left)))
     ∙ number-wrong _ _ _ (c .before .before .number-at .ensures) _ (c .before .match .keys2))
 
 close-at-requires : tie.Need-close-at-requires
@@ -48,14 +48,14 @@ enum-known-e c = search needs
 returns-3 : tie.Need-returns-3
 unfolding readDays
 returns-3 c =
-    sym (strip-right _ _ _ _ _ (begins-true _ _ (c .before .before .before .before .before .before .before .before .begins .result) (c .before .before .before .before .before .before .before .before .begins .ensures) (test-passed refl (c .before .before .before .before .before .before .before .if1 .left)))
+    sym (strip-right _ _ _ _ _ (begins-true _ _ (c .before .before .before .before .before .before .before .before .begins .result) (c .before .before .before .before .before .before .before .before .begins .ensures) refl (test-passed refl (c .before .before .before .before .before .before .before .if1 .left)))
     ∙ number-right _ _ _ (c .before .before .before .before .before .before .number-at .ensures) _ _ _ (c .before .before .before .before .n .given .1)
     ∙ sealed-is _ _ _ _ (c .before .before .close-at .ensures) (c .enum-told .given .1))
 
 returns-4 : tie.Need-returns-4
 unfolding readDays
 returns-4 c =
-    sym (strip-right _ _ _ _ _ (begins-true _ _ (c .before .before .before .before .before .before .before .before .before .begins .result) (c .before .before .before .before .before .before .before .before .before .begins .ensures) (test-passed refl (c .before .before .before .before .before .before .before .before .if1 .left)))
+    sym (strip-right _ _ _ _ _ (begins-true _ _ (c .before .before .before .before .before .before .before .before .before .begins .result) (c .before .before .before .before .before .before .before .before .before .begins .ensures) refl (test-passed refl (c .before .before .before .before .before .before .before .before .if1 .left)))
     ∙ number-right _ _ _ (c .before .before .before .before .before .before .before .number-at .ensures) _ _ _ (c .before .before .before .before .before .n .given .1)
     ∙ sealed-is _ _ _ _ (c .before .before .before .close-at .ensures) (c .before .e .given .1))
 

@@ -16,7 +16,7 @@ begins-requires c κs = search needs
 
 returns : tie.Need-returns
 unfolding readSize
-returns c = sym (strip-wrong _ _ _ _ (begins-false _ _ (c .before .begins .result) (c .before .begins .ensures) (test-failed refl (c .if1 .taken))))
+returns c = sym (strip-wrong _ _ _ _ (begins-false _ _ (c .before .begins .result) (c .before .begins .ensures) refl (test-failed refl (c .if1 .taken))))
 
 cast-field-at : tie.Need-cast-field-at
 cast-field-at c = search needs
@@ -34,7 +34,7 @@ returns-2 : tie.Need-returns-2
 unfolding readSize
 returns-2 c =
     ap wrong (c .fault-of .ensures)
-    ∙ sym (strip-right _ _ _ _ _ (begins-true _ _ (c .before .before .before .before .begins .result) (c .before .before .before .before .begins .ensures) (test-passed refl (c .before .before .before .if1 .left)))
+    ∙ sym (strip-right _ _ _ _ _ (begins-true _ _ (c .before .before .before .before .begins .result) (c .before .before .before .before .begins .ensures) refl (test-passed refl (c .before .before .before .if1 .left)))
     ∙ number-wrong _ _ _ (c .before .before .field-at .ensures) _ (c .before .match .keys2))
 
 cast-field-at-2 : tie.Need-cast-field-at-2
@@ -53,7 +53,7 @@ returns-3 : tie.Need-returns-3
 unfolding readSize
 returns-3 c =
     ap wrong (c .fault-of2 .ensures)
-    ∙ sym (strip-right _ _ _ _ _ (begins-true _ _ (c .before .before .before .before .before .before .before .before .begins .result) (c .before .before .before .before .before .before .before .before .begins .ensures) (test-passed refl (c .before .before .before .before .before .before .before .if1 .left)))
+    ∙ sym (strip-right _ _ _ _ _ (begins-true _ _ (c .before .before .before .before .before .before .before .before .begins .result) (c .before .before .before .before .before .before .before .before .begins .ensures) refl (test-passed refl (c .before .before .before .before .before .before .before .if1 .left)))
     ∙ number-right _ _ _ (c .before .before .before .before .before .before .field-at .ensures) _ _ _ (c .before .before .before .before .a .given .1)
     ∙ number-wrong _ _ _ (c .before .before .field-at2 .ensures) _ (c .before .match2 .keys2))
 
@@ -73,7 +73,7 @@ returns-4 : tie.Need-returns-4
 unfolding readSize
 returns-4 c =
     ap wrong (c .fault-of3 .ensures)
-    ∙ sym (strip-right _ _ _ _ _ (begins-true _ _ (c .before .before .before .before .before .before .before .before .before .before .before .before .begins .result) (c .before .before .before .before .before .before .before .before .before .before .before .before .begins .ensures) (test-passed refl (c .before .before .before .before .before .before .before .before .before .before .before .if1 .left)))
+    ∙ sym (strip-right _ _ _ _ _ (begins-true _ _ (c .before .before .before .before .before .before .before .before .before .before .before .before .begins .result) (c .before .before .before .before .before .before .before .before .before .before .before .before .begins .ensures) refl (test-passed refl (c .before .before .before .before .before .before .before .before .before .before .before .if1 .left)))
     ∙ number-right _ _ _ (c .before .before .before .before .before .before .before .before .before .before .field-at .ensures) _ _ _ (c .before .before .before .before .before .before .before .before .a .given .1)
     ∙ number-right _ _ _ (c .before .before .before .before .before .before .field-at2 .ensures) _ _ _ (c .before .before .before .before .b .given .1)
     ∙ number-wrong _ _ _ (c .before .before .number-at .ensures) _ (c .before .match3 .keys2))
@@ -99,7 +99,7 @@ enum-known-e c = search needs
 returns-5 : tie.Need-returns-5
 unfolding readSize
 returns-5 c =
-    sym (strip-right _ _ _ _ _ (begins-true _ _ (c .before .before .before .before .before .before .before .before .before .before .before .before .before .before .before .before .begins .result) (c .before .before .before .before .before .before .before .before .before .before .before .before .before .before .before .before .begins .ensures) (test-passed refl (c .before .before .before .before .before .before .before .before .before .before .before .before .before .before .before .if1 .left)))
+    sym (strip-right _ _ _ _ _ (begins-true _ _ (c .before .before .before .before .before .before .before .before .before .before .before .before .before .before .before .before .begins .result) (c .before .before .before .before .before .before .before .before .before .before .before .before .before .before .before .before .begins .ensures) refl (test-passed refl (c .before .before .before .before .before .before .before .before .before .before .before .before .before .before .before .if1 .left)))
     ∙ number-right _ _ _ (c .before .before .before .before .before .before .before .before .before .before .before .before .before .before .field-at .ensures) _ _ _ (c .before .before .before .before .before .before .before .before .before .before .before .before .a .given .1)
     ∙ number-right _ _ _ (c .before .before .before .before .before .before .before .before .before .before .field-at2 .ensures) _ _ _ (c .before .before .before .before .before .before .before .before .b .given .1)
     ∙ number-right _ _ _ (c .before .before .before .before .before .before .number-at .ensures) _ _ _ (c .before .before .before .before .c .given .1)
@@ -108,7 +108,7 @@ returns-5 c =
 returns-6 : tie.Need-returns-6
 unfolding readSize
 returns-6 c =
-    sym (strip-right _ _ _ _ _ (begins-true _ _ (c .before .before .before .before .before .before .before .before .before .before .before .before .before .before .before .before .before .begins .result) (c .before .before .before .before .before .before .before .before .before .before .before .before .before .before .before .before .before .begins .ensures) (test-passed refl (c .before .before .before .before .before .before .before .before .before .before .before .before .before .before .before .before .if1 .left)))
+    sym (strip-right _ _ _ _ _ (begins-true _ _ (c .before .before .before .before .before .before .before .before .before .before .before .before .before .before .before .before .before .begins .result) (c .before .before .before .before .before .before .before .before .before .before .before .before .before .before .before .before .before .begins .ensures) refl (test-passed refl (c .before .before .before .before .before .before .before .before .before .before .before .before .before .before .before .before .if1 .left)))
     ∙ number-right _ _ _ (c .before .before .before .before .before .before .before .before .before .before .before .before .before .before .before .field-at .ensures) _ _ _ (c .before .before .before .before .before .before .before .before .before .before .before .before .before .a .given .1)
     ∙ number-right _ _ _ (c .before .before .before .before .before .before .before .before .before .before .before .field-at2 .ensures) _ _ _ (c .before .before .before .before .before .before .before .before .before .b .given .1)
     ∙ number-right _ _ _ (c .before .before .before .before .before .before .before .number-at .ensures) _ _ _ (c .before .before .before .before .before .c .given .1)
