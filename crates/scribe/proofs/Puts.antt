@@ -2,13 +2,13 @@
 use mathlib.Core.Path.{_≡_, ap, sym, _∙_}
 use mathlib.Core.Bool.{true, false}
 use mathlib.Core.List.{List, [], _∷_, _++_, append-nil}
-use Prim.Native.Nat.{ℕ, _+_, _≤_, _<_}
+use Prim.Native.Nat.{ℕ, _+_, _*_, _≤_, _<_}
 use native.Mathlib.Omega.{arith}
-use lib.ListN.{length}
+use lib.ListN.{length, getD}
 use lib.Seq.{append-snoc}
 use borrow.Author.Tests.{lt-ltb, le-ltb}
 use Rattle.kinds.specs.Bits.{bit}
-use Rattle.meaning.specs.Meaning.{Arcs, Rules, target, cost}
+use Rattle.meaning.specs.Meaning.{Arcs, Rules}
 use Rattle.meaning.specs.Lists.{from, each}
 use Rattle.text.specs.Numbers.{decimal}
 use Rattle.text.specs.Writing.{mostPlace, Wrote}
@@ -51,13 +51,15 @@ pub state-none : (m q : ℕ) → bit m q ≡ false → [] ≡ stateText m q
 unfolding stateText
 state-none m q h = rw h
 
-pub arc-some : (a : Arcs) (q v t c : ℕ) → t ≡ target a q v → c ≡ cost a q v → t < a .states → lineText (arc q v t c) ≡ arcText a q v
-unfolding arcText
-arc-some a q v t c e f h = rw (← e, ← f, lt-ltb t (a .states) h) (sym (append-nil (lineText (arc q v t c))))
+-- where an arc stands in both tables
+module _ (a : Arcs) (q v i : ℕ) (e : i ≡ q * a .values + v) where
+  pub arc-some : getD (a .targets) i 0 < a .states → lineText (arc q v (getD (a .targets) i 0) (getD (a .costs) i 0)) ≡ arcText a q v
+  unfolding arcText
+  arc-some h = rw (← e, lt-ltb (getD (a .targets) i 0) (a .states) h) (sym (append-nil (lineText (arc q v (getD (a .targets) i 0) (getD (a .costs) i 0)))))
 
-pub arc-none : (a : Arcs) (q v t : ℕ) → t ≡ target a q v → a .states ≤ t → [] ≡ arcText a q v
-unfolding arcText
-arc-none a q v t e h = rw (← e, le-ltb t (a .states) h)
+  pub arc-none : a .states ≤ getD (a .targets) i 0 → [] ≡ arcText a q v
+  unfolding arcText
+  arc-none h = rw (← e, le-ltb (getD (a .targets) i 0) (a .states) h)
 
 -- the parts of a sheet's text
 sheet-parts : (r : Rules) (s : ℕ)

@@ -13,6 +13,7 @@ ghost use Rattle.scribe.specs.Inner.{listed, stateText, arcText, rowText
 use kinds::State;
 use kinds::Value;
 use rules::Size;
+use rules::arcs::arc_at;
 use text::puts::put_byte;
 use text::puts::put_number;
 use text::puts::put_word;
@@ -81,10 +82,10 @@ pub(crate) fn put_finals(buffer: &mut [u8], at: usize, accepting: u64, states: u
     ensures { λ r. ⌜ Wrote (now (buffer .entry)) at (listed (stateText accepting) states) (now (buffer .exit)) r ⌝ }
 {
     let mut next = at;
-    let mut q: u8 = 0;
-    while (q as usize) < states {
-        next = put_state(buffer, next, accepting, State(q));
-        q += 1;
+    let mut q = State(0);
+    while (q.0 as usize) < states {
+        next = put_state(buffer, next, accepting, q);
+        q = State(q.0 + 1);
     }
     next
 }
@@ -103,13 +104,12 @@ pub(crate) fn put_place(
     ensures { λ r. ⌜ Wrote (now (buffer .entry)) at (arcText (arcsOf (size .states) (size .values) (now (targets .entry)) (now (costs .entry))) (q .0) (v .0)) (now (buffer .exit)) r ⌝ }
 {
     let states = size.states;
-    let values = size.values;
-    let i = (q.0 as usize) * values + v.0 as usize;
-    let target = targets[i];
-    if states <= target as usize {
+    let i = arc_at(q, v, size.values as u8);
+    let target = State(targets[i]);
+    if states <= target.0 as usize {
         return at;
     }
-    put_arc(buffer, at, q, v, State(target), costs[i])
+    put_arc(buffer, at, q, v, target, costs[i])
 }
 
 // Puts the arc lines of a state.
@@ -126,10 +126,10 @@ pub(crate) fn put_row(
 {
     let values = size.values;
     let mut next = at;
-    let mut v: u8 = 0;
-    while (v as usize) < values {
-        next = put_place(buffer, next, size, targets, costs, q, Value(v));
-        v += 1;
+    let mut v = Value(0);
+    while (v.0 as usize) < values {
+        next = put_place(buffer, next, size, targets, costs, q, v);
+        v = Value(v.0 + 1);
     }
     next
 }
@@ -147,10 +147,10 @@ pub(crate) fn put_arcs(
 {
     let states = size.states;
     let mut next = at;
-    let mut q: u8 = 0;
-    while (q as usize) < states {
-        next = put_row(buffer, next, size, targets, costs, State(q));
-        q += 1;
+    let mut q = State(0);
+    while (q.0 as usize) < states {
+        next = put_row(buffer, next, size, targets, costs, q);
+        q = State(q.0 + 1);
     }
     next
 }

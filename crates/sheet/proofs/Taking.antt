@@ -67,10 +67,9 @@ module _ (v m : ℕ) (t c : List ℕ) (r : Row) (h : m < 2 ^ mostStates) where
         costs = refl;
       })
 
-  pub put-arc : (q : State) (w : Value) (x : State) (y : ℕ) → r ≡ Arc q w x y
-      → Put v (rowLines r) m t c m (set t (q .0 * v + w .0) (x .0)) (set c (q .0 * v + w .0) y)
+  pub put-arc : (q : State) (w : Value) (x : State) (y i : ℕ) → r ≡ Arc q w x y → i ≡ q .0 * v + w .0 → Put v (rowLines r) m t c m (set t i (x .0)) (set c i y)
   unfolding puts
-  put-arc q w x y e = rw e (record { mask = mask-kept m h; targets = refl; costs = refl })
+  put-arc q w x y i e p = rw (e, p) (record { mask = mask-kept m h; targets = refl; costs = refl })
 
   pub put-out : (q : State) (w : Value) (x : State) (y : ℕ) → r ≡ Arc q w x y → length t ≡ length c → length t ≤ q .0 * v + w .0
       → Put v (rowLines r) m t c m t c

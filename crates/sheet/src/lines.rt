@@ -1,12 +1,13 @@
 // The lines of a sheet, each judged by itself.
 ghost use mathlib.Core.Path.{_≡_};
-ghost use Prim.Native.Nat.{_≤_};
+ghost use Prim.Native.Nat.{_+_, _*_, _≤_};
 ghost use lib.ListN.{length, drop};
 ghost use Rattle.sheet.specs.Lines.{readSize, readFinal, readArc, readLine};
 ghost use Rattle.sheet.specs.Inner.{Sized, topView, rowView, rowNext};
 use kinds::State;
 use kinds::Value;
 use rules::Size;
+use rules::arcs::arc_at;
 use rules::bounds;
 use text::bytes::begins;
 use text::lines::End;
@@ -67,14 +68,23 @@ pub(crate) fn final_line(line: &[u8], size: Size, next: usize) -> Row
 {
     let states = size.states;
     let n = number_at(line, 6, 0, (states - 1) as u32);
-    let Number::Value(q, end) = n else {
+    let Number::Value(state, end) = n else {
         return Row::Wrong(fault_of(n));
     };
-    let e = close_at(line, end, next <= q as usize);
+    let q = State(state as u8);
+    let e = close_at(line, end, next <= q.0 as usize);
     match e {
-        End::Fine => Row::Final(State(q as u8)),
+        End::Fine => Row::Final(q),
         End::Faulty(f) => Row::Wrong(f),
     }
+}
+
+// The place of an arc line in the sheet's order: behind the final lines, by state and value.
+pub(crate) fn arc_place(size: Size, q: State, v: Value) -> usize
+    requires { ⌜ Sized size ⌝ }
+    ensures { λ r. ⌜ r ≡ size .states + (q .0 * size .values + v .0) ⌝ }
+{
+    size.states + arc_at(q, v, size.values as u8)
 }
 
 // An arc line, past its word.
@@ -85,11 +95,11 @@ pub(crate) fn arc_line(line: &[u8], size: Size, next: usize) -> Row
     let states = size.states;
     let values = size.values;
     let a = field_at(line, 4, 0, (states - 1) as u32);
-    let Number::Value(q, at) = a else {
+    let Number::Value(state, at) = a else {
         return Row::Wrong(fault_of(a));
     };
     let b = field_at(line, at, 0, (values - 1) as u32);
-    let Number::Value(v, at2) = b else {
+    let Number::Value(value, at2) = b else {
         return Row::Wrong(fault_of(b));
     };
     let c = field_at(line, at2, 0, (states - 1) as u32);
@@ -100,18 +110,11 @@ pub(crate) fn arc_line(line: &[u8], size: Size, next: usize) -> Row
     let Number::Value(cost, end) = n else {
         return Row::Wrong(fault_of(n));
     };
-    let e = close_at(
-        line,
-        end,
-        next <= states + (q as usize * values + v as usize),
-    );
+    let q = State(state as u8);
+    let v = Value(value as u8);
+    let e = close_at(line, end, next <= arc_place(size, q, v));
     match e {
-        End::Fine => Row::Arc(
-            State(q as u8),
-            Value(v as u8),
-            State(target as u8),
-            cost as u16,
-        ),
+        End::Fine => Row::Arc(q, v, State(target as u8), cost as u16),
         End::Faulty(f) => Row::Wrong(f),
     }
 }
@@ -135,11 +138,9 @@ pub(crate) fn after_row(size: Size, row: Row) -> usize
     requires { ⌜ Sized size ⌝ }
     ensures { λ r. ⌜ r ≡ rowNext size row ⌝ }
 {
-    let states = size.states;
-    let values = size.values;
     match row {
         Row::Final(q) => q.0 as usize + 1,
-        Row::Arc(q, v, _, _) => states + (q.0 as usize * values + v.0 as usize) + 1,
+        Row::Arc(q, v, _, _) => arc_place(size, q, v) + 1,
         Row::Wrong(_) => 0,
     }
 }

@@ -12,6 +12,7 @@ use crate::lines::after_row;
 use crate::lines::row_of;
 use crate::lines::size_line;
 use rules::Size;
+use rules::arcs::arc_at;
 use rules::bounds;
 use text::lines::Fault;
 use text::lines::line_end;
@@ -33,11 +34,10 @@ pub(crate) fn put_row(
     requires { ⌜ (length (now targets) ≡ length (now costs)) × Sized size × RowIn size row ⌝ }
     ensures { λ r. ⌜ Put (size .values) (rowLines row) accepting (now (targets .entry)) (now (costs .entry)) r (now (targets .exit)) (now (costs .exit)) ⌝ }
 {
-    let values = size.values;
     match row {
         Row::Final(q) => accepting | (1u64 << q.0),
         Row::Arc(q, v, t, c) => {
-            let i = q.0 as usize * values + v.0 as usize;
+            let i = arc_at(q, v, size.values as u8);
             if i < targets.len() {
                 targets[i] = t.0;
                 costs[i] = c;

@@ -1,5 +1,6 @@
 use native.Mathlib.Omega.{arith}
-use mathlib.Core.Path.{sym, ap}
+use mathlib.Core.Path.{sym, ap, _∙_}
+use Prim.Native.Nat.{ℕ, _+_}
 use Rattle.sheet.specs.Inner.{rowNext}
 use Rattle.sheet.proofs.Judging.{product-fits}
 use borrow.Author.Needs.{needs}
@@ -18,23 +19,11 @@ add-result c = search needs
 enum-known-row-2 : tie.Need-enum-known-row-2
 enum-known-row-2 c = search needs
 
-cast-result-2 : tie.Need-cast-result-2
-cast-result-2 c = search needs
-
-mul-result : tie.Need-mul-result
-mul-result c = omega (arith, product-fits (c .before .before .row2 .given .0 .0 .0) (c .before .before .before .before .args .size .values) (omega arith) (c .before .before .before .before .pre .few-values), c .before .before .before .before .pre)
-
-cast-result-3 : tie.Need-cast-result-3
-cast-result-3 c = search needs
+arc-place-requires : tie.Need-arc-place-requires
+arc-place-requires c κs = search needs
 
 add-result-2 : tie.Need-add-result-2
-add-result-2 c = omega (arith, product-fits (c .before .before .before .row2 .given .0 .0 .0) (c .before .before .before .before .before .args .size .values) (omega arith) (c .before .before .before .before .before .pre .few-values), c .before .before .before .before .before .pre)
-
-add-result-3 : tie.Need-add-result-3
-add-result-3 c = omega (arith, product-fits (c .before .before .before .row2 .given .0 .0 .0) (c .before .before .before .before .before .args .size .values) (omega arith) (c .before .before .before .before .before .pre .few-values), c .before .before .before .before .before .pre)
-
-add-result-4 : tie.Need-add-result-4
-add-result-4 c = omega (arith, product-fits (c .before .before .before .row2 .given .0 .0 .0) (c .before .before .before .before .before .args .size .values) (omega arith) (c .before .before .before .before .before .pre .few-values), c .before .before .before .before .before .pre)
+add-result-2 c = omega (arith, product-fits (c .before .before .row2 .given .0 .0 .0) (c .before .before .before .before .args .size .values) (omega arith) (c .before .before .before .before .pre .few-values), c .arc-place .ensures, c .before .before .before .before .pre)
 
 enum-told : tie.Need-enum-told
 enum-told c = search needs
@@ -43,7 +32,7 @@ returns : tie.Need-returns
 returns c = sym (ap (rowNext (c .before .before .before .before .args .size)) (c .before .before .row .given .1))
 
 returns-2 : tie.Need-returns-2
-returns-2 c = sym (ap (rowNext (c .before .before .before .before .before .args .size)) (c .before .before .before .row2 .given .1))
+returns-2 c = ap (λ (k : ℕ). k + 1) (c .arc-place .ensures) ∙ sym (ap (rowNext (c .before .before .before .before .args .size)) (c .before .before .row2 .given .1))
 
 returns-3 : tie.Need-returns-3
 returns-3 c = search needs
@@ -56,12 +45,8 @@ after-row-spec =
     cast-result
     add-result
     enum-known-row-2
-    cast-result-2
-    mul-result
-    cast-result-3
+    arc-place-requires
     add-result-2
-    add-result-3
-    add-result-4
     enum-told
     returns
     returns-2

@@ -3,7 +3,7 @@ use native.Mathlib.Omega.{arith}
 use Rattle.text.specs.Lines.{wrong}
 use Rattle.text.proofs.Judging.{number-right, number-wrong, number-range, field-range, sealed-is}
 use Rattle.sheet.specs.Lines.{readArc, place}
-use Rattle.sheet.proofs.Judging.{order-fits}
+use Rattle.sheet.proofs.Judging.{order-as}
 use borrow.Author.Needs.{needs}
 use Rattle.sheet.proofs.lines.arc_line.Statement.{statement}
 use Rattle.sheet.proofs.lines.arc_line.Tie as tie
@@ -25,7 +25,9 @@ fault-of-requires c κs = search needs
 
 returns : tie.Need-returns
 unfolding readArc
-returns c = ap wrong (c .fault-of .ensures) ∙ sym (number-wrong _ _ _ (c .before .before .field-at .ensures) _ (c .before .match .keys2))
+returns c =
+    ap wrong (c .fault-of .ensures)
+    ∙ sym (number-wrong _ _ _ (c .before .before .field-at .ensures) _ (c .before .match .keys2))
 
 sub-field-at-2 : tie.Need-sub-field-at-2
 sub-field-at-2 c = search needs
@@ -93,20 +95,14 @@ returns-4 c =
     ∙ number-right _ _ _ (c .before .before .before .before .before .before .field-at3 .ensures) _ _ _ (c .before .before .before .before .c .given .1)
     ∙ number-wrong _ _ _ (c .before .before .number-at .ensures) _ (c .before .match4 .keys2))
 
-cast-close-at : tie.Need-cast-close-at
-cast-close-at c = search needs
+cast-t28 : tie.Need-cast-t28
+cast-t28 c = omega (arith, field-range _ _ _ _ _ (c .before .before .before .before .before .before .before .before .before .before .before .before .before .before .before .field-at .ensures) _ _ (c .before .before .before .before .before .before .before .before .before .before .before .before .before .a .given .1), c .before .before .before .before .before .before .before .before .before .before .before .before .before .before .before .before .before .pre .1)
 
-mul-close-at : tie.Need-mul-close-at
-mul-close-at c = omega (arith, order-fits _ _ _ (c .before .before .before .before .before .before .before .before .before .before .before .before .before .before .before .before .before .pre .1) (field-range _ _ _ _ _ (c .before .before .before .before .before .before .before .before .before .before .before .before .before .before .before .field-at .ensures) _ _ (c .before .before .before .before .before .before .before .before .before .before .before .before .before .a .given .1) .1) (field-range _ _ _ _ _ (c .before .before .before .before .before .before .before .before .before .before .before .field-at2 .ensures) _ _ (c .before .before .before .before .before .before .before .before .before .b .given .1) .1))
+cast-t28-2 : tie.Need-cast-t28-2
+cast-t28-2 c = omega (arith, field-range _ _ _ _ _ (c .before .before .before .before .before .before .before .before .before .before .before .field-at2 .ensures) _ _ (c .before .before .before .before .before .before .before .before .before .b .given .1), c .before .before .before .before .before .before .before .before .before .before .before .before .before .before .before .before .before .pre .1)
 
-cast-close-at-2 : tie.Need-cast-close-at-2
-cast-close-at-2 c = search needs
-
-add-close-at : tie.Need-add-close-at
-add-close-at c = omega (arith, order-fits _ _ _ (c .before .before .before .before .before .before .before .before .before .before .before .before .before .before .before .before .before .pre .1) (field-range _ _ _ _ _ (c .before .before .before .before .before .before .before .before .before .before .before .before .before .before .before .field-at .ensures) _ _ (c .before .before .before .before .before .before .before .before .before .before .before .before .before .a .given .1) .1) (field-range _ _ _ _ _ (c .before .before .before .before .before .before .before .before .before .before .before .field-at2 .ensures) _ _ (c .before .before .before .before .before .before .before .before .before .b .given .1) .1))
-
-add-close-at-2 : tie.Need-add-close-at-2
-add-close-at-2 c = omega (arith, order-fits _ _ _ (c .before .before .before .before .before .before .before .before .before .before .before .before .before .before .before .before .before .pre .1) (field-range _ _ _ _ _ (c .before .before .before .before .before .before .before .before .before .before .before .before .before .before .before .field-at .ensures) _ _ (c .before .before .before .before .before .before .before .before .before .before .before .before .before .a .given .1) .1) (field-range _ _ _ _ _ (c .before .before .before .before .before .before .before .before .before .before .before .field-at2 .ensures) _ _ (c .before .before .before .before .before .before .before .before .before .b .given .1) .1))
+arc-place-requires : tie.Need-arc-place-requires
+arc-place-requires c κs = search needs
 
 close-at-requires : tie.Need-close-at-requires
 close-at-requires c κs = search needs
@@ -114,17 +110,11 @@ close-at-requires c κs = search needs
 enum-told : tie.Need-enum-told
 enum-told c = search needs
 
-cast-t32 : tie.Need-cast-t32
-cast-t32 c = omega (arith, field-range _ _ _ _ _ (c .before .before .before .before .before .before .before .before .before .before .before .before .before .before .before .before .before .before .field-at .ensures) _ _ (c .before .before .before .before .before .before .before .before .before .before .before .before .before .before .before .before .a .given .1), c .before .before .before .before .before .before .before .before .before .before .before .before .before .before .before .before .before .before .before .before .pre .1)
+cast-t31 : tie.Need-cast-t31
+cast-t31 c = omega (arith, field-range _ _ _ _ _ (c .before .before .before .before .before .before .before .before .before .before .before .field-at3 .ensures) _ _ (c .before .before .before .before .before .before .before .before .before .c .given .1), c .before .before .before .before .before .before .before .before .before .before .before .before .before .before .before .before .before .before .before .before .before .pre .1)
 
-cast-t34 : tie.Need-cast-t34
-cast-t34 c = omega (arith, field-range _ _ _ _ _ (c .before .before .before .before .before .before .before .before .before .before .before .before .before .before .field-at2 .ensures) _ _ (c .before .before .before .before .before .before .before .before .before .before .before .before .b .given .1), c .before .before .before .before .before .before .before .before .before .before .before .before .before .before .before .before .before .before .before .before .pre .1)
-
-cast-t36 : tie.Need-cast-t36
-cast-t36 c = omega (arith, field-range _ _ _ _ _ (c .before .before .before .before .before .before .before .before .before .before .field-at3 .ensures) _ _ (c .before .before .before .before .before .before .before .before .c .given .1), c .before .before .before .before .before .before .before .before .before .before .before .before .before .before .before .before .before .before .before .before .pre .1)
-
-cast-t38 : tie.Need-cast-t38
-cast-t38 c = omega (arith, number-range _ _ _ _ _ (c .before .before .before .before .before .before .number-at .ensures) _ _ (c .before .before .before .before .n .given .1))
+cast-t33 : tie.Need-cast-t33
+cast-t33 c = omega (arith, number-range _ _ _ _ _ (c .before .before .before .before .before .before .before .number-at .ensures) _ _ (c .before .before .before .before .before .n .given .1))
 
 enum-known-e : tie.Need-enum-known-e
 enum-known-e c = search needs
@@ -132,20 +122,20 @@ enum-known-e c = search needs
 returns-5 : tie.Need-returns-5
 unfolding readArc place
 returns-5 c =
-    sym (number-right _ _ _ (c .before .before .before .before .before .before .before .before .before .before .before .before .before .before .before .before .before .before .field-at .ensures) _ _ _ (c .before .before .before .before .before .before .before .before .before .before .before .before .before .before .before .before .a .given .1)
-    ∙ number-right _ _ _ (c .before .before .before .before .before .before .before .before .before .before .before .before .before .before .field-at2 .ensures) _ _ _ (c .before .before .before .before .before .before .before .before .before .before .before .before .b .given .1)
-    ∙ number-right _ _ _ (c .before .before .before .before .before .before .before .before .before .before .field-at3 .ensures) _ _ _ (c .before .before .before .before .before .before .before .before .c .given .1)
-    ∙ number-right _ _ _ (c .before .before .before .before .before .before .number-at .ensures) _ _ _ (c .before .before .before .before .n .given .1)
-    ∙ sealed-is _ _ _ _ (c .before .before .close-at .ensures) (c .enum-told .given .1))
-
-returns-6 : tie.Need-returns-6
-unfolding readArc place
-returns-6 c =
     sym (number-right _ _ _ (c .before .before .before .before .before .before .before .before .before .before .before .before .before .before .before .before .before .before .before .field-at .ensures) _ _ _ (c .before .before .before .before .before .before .before .before .before .before .before .before .before .before .before .before .before .a .given .1)
     ∙ number-right _ _ _ (c .before .before .before .before .before .before .before .before .before .before .before .before .before .before .before .field-at2 .ensures) _ _ _ (c .before .before .before .before .before .before .before .before .before .before .before .before .before .b .given .1)
     ∙ number-right _ _ _ (c .before .before .before .before .before .before .before .before .before .before .before .field-at3 .ensures) _ _ _ (c .before .before .before .before .before .before .before .before .before .c .given .1)
     ∙ number-right _ _ _ (c .before .before .before .before .before .before .before .number-at .ensures) _ _ _ (c .before .before .before .before .before .n .given .1)
-    ∙ sealed-is _ _ _ _ (c .before .before .before .close-at .ensures) (c .before .e .given .1))
+    ∙ sealed-is _ _ _ _ (order-as _ _ _ _ _ (c .before .before .before .arc-place .ensures) (c .before .before .close-at .ensures)) (c .enum-told .given .1))
+
+returns-6 : tie.Need-returns-6
+unfolding readArc place
+returns-6 c =
+    sym (number-right _ _ _ (c .before .before .before .before .before .before .before .before .before .before .before .before .before .before .before .before .before .before .before .before .field-at .ensures) _ _ _ (c .before .before .before .before .before .before .before .before .before .before .before .before .before .before .before .before .before .before .a .given .1)
+    ∙ number-right _ _ _ (c .before .before .before .before .before .before .before .before .before .before .before .before .before .before .before .before .field-at2 .ensures) _ _ _ (c .before .before .before .before .before .before .before .before .before .before .before .before .before .before .b .given .1)
+    ∙ number-right _ _ _ (c .before .before .before .before .before .before .before .before .before .before .before .before .field-at3 .ensures) _ _ _ (c .before .before .before .before .before .before .before .before .before .before .c .given .1)
+    ∙ number-right _ _ _ (c .before .before .before .before .before .before .before .before .number-at .ensures) _ _ _ (c .before .before .before .before .before .before .n .given .1)
+    ∙ sealed-is _ _ _ _ (order-as _ _ _ _ _ (c .before .before .before .before .arc-place .ensures) (c .before .before .before .close-at .ensures)) (c .before .e .given .1))
 
 pub arc-line-spec : {M : Type 1} → statement M
 arc-line-spec =
@@ -174,17 +164,13 @@ arc-line-spec =
     enum-known-n
     fault-of-requires-4
     returns-4
-    cast-close-at
-    mul-close-at
-    cast-close-at-2
-    add-close-at
-    add-close-at-2
+    cast-t28
+    cast-t28-2
+    arc-place-requires
     close-at-requires
     enum-told
-    cast-t32
-    cast-t34
-    cast-t36
-    cast-t38
+    cast-t31
+    cast-t33
     enum-known-e
     returns-5
     returns-6)

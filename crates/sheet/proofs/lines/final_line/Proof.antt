@@ -26,6 +26,9 @@ returns : tie.Need-returns
 unfolding readFinal
 returns c = ap wrong (c .fault-of .ensures) ∙ sym (number-wrong _ _ _ (c .before .before .number-at .ensures) _ (c .before .match .keys2))
 
+cast-t14 : tie.Need-cast-t14
+cast-t14 c = omega (arith, number-range _ _ _ _ _ (c .before .before .before .number-at .ensures) _ _ (c .before .n .given .1), c .before .before .before .before .before .pre .1)
+
 cast-close-at : tie.Need-cast-close-at
 cast-close-at c = search needs
 
@@ -35,22 +38,19 @@ close-at-requires c κs = search needs
 enum-told : tie.Need-enum-told
 enum-told c = search needs
 
-cast-t15 : tie.Need-cast-t15
-cast-t15 c = omega (arith, number-range _ _ _ _ _ (c .before .before .before .before .before .before .number-at .ensures) _ _ (c .before .before .before .before .n .given .1), c .before .before .before .before .before .before .before .before .pre .1)
-
 enum-known-e : tie.Need-enum-known-e
 enum-known-e c = search needs
 
 returns-2 : tie.Need-returns-2
 unfolding readFinal place
 returns-2 c =
-    sym (number-right _ _ _ (c .before .before .before .before .before .before .number-at .ensures) _ _ _ (c .before .before .before .before .n .given .1)
+    sym (number-right _ _ _ (c .before .before .before .before .before .before .before .number-at .ensures) _ _ _ (c .before .before .before .before .before .n .given .1)
     ∙ sealed-is _ _ _ _ (c .before .before .close-at .ensures) (c .enum-told .given .1))
 
 returns-3 : tie.Need-returns-3
 unfolding readFinal place
 returns-3 c =
-    sym (number-right _ _ _ (c .before .before .before .before .before .before .before .number-at .ensures) _ _ _ (c .before .before .before .before .before .n .given .1)
+    sym (number-right _ _ _ (c .before .before .before .before .before .before .before .before .number-at .ensures) _ _ _ (c .before .before .before .before .before .before .n .given .1)
     ∙ sealed-is _ _ _ _ (c .before .before .before .close-at .ensures) (c .before .e .given .1))
 
 pub final-line-spec : {M : Type 1} → statement M
@@ -63,10 +63,10 @@ final-line-spec =
     enum-known-n
     fault-of-requires
     returns
+    cast-t14
     cast-close-at
     close-at-requires
     enum-told
-    cast-t15
     enum-known-e
     returns-2
     returns-3)

@@ -11,37 +11,31 @@ cast-result : tie.Need-cast-result
 cast-result c = search needs
 
 shl-result : tie.Need-shl-result
-shl-result c = omega (arith, final-in _ _ _ (c .before .before .before .before .pre .2) (c .before .before .row .given .1), c .before .before .before .before .pre .1)
+shl-result c = omega (arith, final-in _ _ _ (c .before .before .before .before .before .before .pre .2) (c .before .before .row .given .1), c .before .before .before .before .before .before .pre .1)
 
 enum-known-row-2 : tie.Need-enum-known-row-2
 enum-known-row-2 c = search needs
 
-cast-i : tie.Need-cast-i
-cast-i c = search needs
+cast-arc-at : tie.Need-cast-arc-at
+cast-arc-at c = omega (arith, c .before .before .before .before .before .before .pre .1)
 
-mul-i : tie.Need-mul-i
-mul-i c = omega (arith, arc-fits (c .before .before .before .before .args .size) (c .before .before .before .before .args .row) (c .before .before .row2 .given .0 .0) (c .before .before .row2 .given .0 .1 .0) (c .before .before .row2 .given .0 .1 .1 .0) (c .before .before .row2 .given .0 .1 .1 .1 .0) (c .before .before .before .before .pre .1) (c .before .before .before .before .pre .2) (c .before .before .row2 .given .1))
-
-cast-i-2 : tie.Need-cast-i-2
-cast-i-2 c = search needs
-
-add-i : tie.Need-add-i
-add-i c = omega (arith, arc-fits (c .before .before .before .before .before .args .size) (c .before .before .before .before .before .args .row) (c .before .before .before .row2 .given .0 .0) (c .before .before .before .row2 .given .0 .1 .0) (c .before .before .before .row2 .given .0 .1 .1 .0) (c .before .before .before .row2 .given .0 .1 .1 .1 .0) (c .before .before .before .before .before .pre .1) (c .before .before .before .before .before .pre .2) (c .before .before .before .row2 .given .1))
+arc-at-requires : tie.Need-arc-at-requires
+arc-at-requires c κs = search needs
 
 slice-write-targets : tie.Need-slice-write-targets
 slice-write-targets c = omega arith
 
 mul-costs : tie.Need-mul-costs
-mul-costs c = omega (arith, arc-fits (c .before .before .before .before .before .before .args .size) (c .before .before .before .before .before .before .args .row) (c .before .before .before .before .row2 .given .0 .0) (c .before .before .before .before .row2 .given .0 .1 .0) (c .before .before .before .before .row2 .given .0 .1 .1 .0) (c .before .before .before .before .row2 .given .0 .1 .1 .1 .0) (c .before .before .before .before .before .before .pre .1) (c .before .before .before .before .before .before .pre .2) (c .before .before .before .before .row2 .given .1))
+mul-costs c = omega (arith, arc-fits _ _ _ _ _ _ (c .before .before .before .before .before .before .before .before .pre .1) (c .before .before .before .before .before .before .before .before .pre .2) (c .before .before .before .before .row2 .given .1), c .before .arc-at .ensures)
 
 slice-write-costs : tie.Need-slice-write-costs
-slice-write-costs c = omega (arith, c .before .before .before .before .before .before .pre .0)
+slice-write-costs c = omega (arith, c .before .before .before .before .before .before .before .before .pre .0)
 
 enum-told : tie.Need-enum-told
 enum-told c = search needs
 
 returns : tie.Need-returns
-returns c = put-final (c .before .before .before .before .args .size .values) _ _ _ _ (omega arith) _ (c .before .before .row .given .1) (omega (arith, final-in _ _ _ (c .before .before .before .before .pre .2) (c .before .before .row .given .1), c .before .before .before .before .pre .1))
+returns c = put-final (c .before .before .before .before .before .before .args .size .values) _ _ _ _ (omega arith) _ (c .before .before .row .given .1) (omega (arith, final-in _ _ _ (c .before .before .before .before .before .before .pre .2) (c .before .before .row .given .1), c .before .before .before .before .before .before .pre .1))
 
 same-length : tie.Need-same-length
 same-length c = search needs
@@ -50,13 +44,13 @@ same-length-2 : tie.Need-same-length-2
 same-length-2 c = search needs
 
 returns-2 : tie.Need-returns-2
-returns-2 c = put-arc (c .before .before .before .before .before .before .args .size .values) _ _ _ _ (omega arith) _ _ _ _ (c .before .before .before .before .row2 .given .1)
+returns-2 c = put-arc (c .before .before .before .before .before .before .before .before .args .size .values) _ _ _ _ (omega arith) _ _ _ _ _ (c .before .before .before .before .row2 .given .1) (c .before .arc-at .ensures)
 
 returns-3 : tie.Need-returns-3
-returns-3 c = put-out (c .before .before .before .before .before .before .args .size .values) _ _ _ _ (omega arith) _ _ _ _ (c .before .before .before .before .row2 .given .1) (c .before .before .before .before .before .before .pre .0) (omega arith)
+returns-3 c = put-out (c .before .before .before .before .before .before .before .before .args .size .values) _ _ _ _ (omega arith) _ _ _ _ (c .before .before .before .before .row2 .given .1) (c .before .before .before .before .before .before .before .before .pre .0) (omega (arith, c .before .arc-at .ensures))
 
 returns-4 : tie.Need-returns-4
-returns-4 c = put-wrong (c .before .before .args .size .values) _ _ _ _ (omega arith) _ (c .enum-told .given .1)
+returns-4 c = put-wrong (c .before .before .before .before .args .size .values) _ _ _ _ (omega arith) _ (c .enum-told .given .1)
 
 pub put-row-spec : {M : Type 1} → statement M
 put-row-spec =
@@ -66,10 +60,8 @@ put-row-spec =
     cast-result
     shl-result
     enum-known-row-2
-    cast-i
-    mul-i
-    cast-i-2
-    add-i
+    cast-arc-at
+    arc-at-requires
     slice-write-targets
     mul-costs
     slice-write-costs
