@@ -1,16 +1,18 @@
 -- The lines of a job, taken one by one. Assumes nothing.
 use mathlib.Core.Path.{_≡_, refl, ap, sym, _∙_, subst}
 use mathlib.Core.Logic.{⊎-elim}
-use mathlib.Core.Bool.{Bool, true, false}
+use mathlib.Core.Bool.{Bool, true, false, _&&_}
 use mathlib.Core.List.{List, [], _∷_, _++_, append-nil, append-assoc}
-use Prim.Native.Nat.{ℕ, zero, suc, _+_, _-_, _≤_, _<_, min}
+use Prim.Native.Nat.{ℕ, zero, suc, _+_, _-_, _^_, _≤_, _<_, min}
 use native.Mathlib.Omega.{arith}
 use types.Run.{OneOf}
 use denote.Enum.Declared.{tagOf}
-use lib.Bits.{bitAnd}
 use lib.Dec.{eqb}
 use lib.ListN.{length, getD, take, drop, set, drop-of-length-le}
 use lib.Seq.{drop-cons}
+use Rattle.kinds.specs.Bits.{width, bit, maskOf}
+use Rattle.kinds.specs.declared.Mask.{Mask}
+use Rattle.kinds.proofs.Bits.{meet-mask}
 use Rattle.meaning.specs.Meaning.{Decision, Keep, Limit, places, decides}
 use Rattle.meaning.proofs.Decisions.{keep-stored, limit-stored, decides-append}
 use Rattle.text.specs.Bytes.{feed}
@@ -29,9 +31,11 @@ pub asked-in : (a b : Asked) (n l : ℕ) → a ≡ b → AskedIn a n l → Asked
 asked-in a b n l e h = subst (λ (x : Asked). AskedIn x n l) e h
 
 module _ (a : Asked) (ms ls : List ℕ) where
-  pub keep-taken : (i m : ℕ) → a ≡ the.Keep i m → places (set ms i (bitAnd (getD ms i 0) m)) ls ≡ decides (places ms ls) (asks a)
+  pub keep-taken : (i : ℕ) (m : Mask) (x : ℕ) → a ≡ the.Keep i m → x ≡ maskOf (λ u. bit (getD ms i 0) u && bit (m .0) u) width → getD ms i 0 < 2 ^ width → m .0 < 2 ^ width → places (set ms i x) ls ≡ decides (places ms ls) (asks a)
   unfolding decides
-  keep-taken i m e = sym (keep-stored ms ls i m) ∙ ap (λ (x : Asked). decides (places ms ls) (asks x)) (sym e)
+  keep-taken i m x e k f g =
+      ap (λ (y : ℕ). places (set ms i y) ls) (k ∙ sym (meet-mask width (getD ms i 0) (m .0) f g))
+      ∙ (sym (keep-stored ms ls i (m .0)) ∙ ap (λ (y : Asked). decides (places ms ls) (asks y)) (sym e))
 
   pub limit-taken : (i c x : ℕ) → a ≡ the.Limit i c → x ≡ min (getD ls i 0) c → places ms (set ls i x) ≡ decides (places ms ls) (asks a)
   unfolding decides
@@ -66,7 +70,7 @@ some-line s at h = let r = go (eqb (getD s at 0) feed) (lines (drop (suc at) s))
 
 -- a line that asks for a decision, and one that is wrong
 decision-of : (a : Asked) → OneOf (0 ∷ 1 ∷ []) (tagOf the-type a) → (d : Decision) × (askedView a ≡ right d) × (asks a ≡ d ∷ [])
-decision-of (the.Keep i m) o = (Keep i m, refl, refl)
+decision-of (the.Keep i m) o = (Keep i (m .0), refl, refl)
 decision-of (the.Limit i c) o = (Limit i c, refl, refl)
 decision-of (the.Wrong f) o = ⊎-elim (λ w. absurd (omega arith)) (λ w. absurd (omega arith)) o
 

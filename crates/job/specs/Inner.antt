@@ -28,13 +28,13 @@ daysView (the-days.Right n) = right n
 daysView (the-days.Wrong f) = wrong f
 
 abbrev pub askedView : Asked → Judged Decision
-askedView (the-asked.Keep i m) = right (Keep i m)
+askedView (the-asked.Keep i m) = right (Keep i (m .0))
 askedView (the-asked.Limit i c) = right (Limit i c)
 askedView (the-asked.Wrong f) = wrong f
 
 -- the decision that a line asks for, or none; and its place is there
 abbrev pub asks : Asked → List Decision
-asks (the-asked.Keep i m) = Keep i m ∷ []
+asks (the-asked.Keep i m) = Keep i (m .0) ∷ []
 asks (the-asked.Limit i c) = Limit i c ∷ []
 asks (the-asked.Wrong f) = []
 

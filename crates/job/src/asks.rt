@@ -1,10 +1,11 @@
 // The lines of a job, each judged by itself.
 ghost use mathlib.Core.Path.{_≡_};
-ghost use Prim.Native.Nat.{_-_, _^_, _≤_};
+ghost use Prim.Native.Nat.{_≤_};
 ghost use lib.ListN.{drop};
 ghost use Rattle.meaning.specs.Bounds.{mostValues};
 ghost use Rattle.job.specs.Input.{mostDays, readDays, readKeep, readLimit, readDecision};
 ghost use Rattle.job.specs.Inner.{daysView, AskedAt};
+use kinds::Mask;
 use text::bytes::begins;
 use text::lines::End;
 use text::lines::Fault;
@@ -25,17 +26,9 @@ pub(crate) enum Days {
 
 // A later line: a decision.
 pub(crate) enum Asked {
-    Keep(usize, u16),
+    Keep(usize, Mask),
     Limit(usize, u32),
     Wrong(Fault),
-}
-
-// The largest mask of so many values.
-pub(crate) fn highest(values: usize) -> u32
-    requires { ⌜ values ≤ mostValues ⌝ }
-    ensures { λ r. ⌜ r ≡ 2 ^ values - 1 ⌝ }
-{
-    (1u32 << values) - 1
 }
 
 // The days line.
@@ -65,13 +58,15 @@ pub(crate) fn keep_line(line: &[u8], places: usize, values: usize) -> Asked
     let Number::Value(place, at) = a else {
         return Asked::Wrong(fault_of(a));
     };
-    let b = number_at(line, at, 0, highest(values));
+    // no mask of so many values is larger than the full one
+    let most = Mask::full(values);
+    let b = number_at(line, at, 0, most.0 as u32);
     let Number::Value(mask, end) = b else {
         return Asked::Wrong(fault_of(b));
     };
     let e = close_at(line, end, true);
     match e {
-        End::Fine => Asked::Keep(place as usize, mask as u16),
+        End::Fine => Asked::Keep(place as usize, Mask(mask as u16)),
         End::Faulty(f) => Asked::Wrong(f),
     }
 }

@@ -11,12 +11,12 @@ ghost use Rattle.job.specs.Input.{mostDays, mostLines, readDecisions, re
 ghost use Rattle.job.specs.Job.{doneText};
 use crate::asks::Days;
 use crate::asks::days_line;
-use crate::asks::highest;
 use crate::print::put_line;
 use crate::show::DAYS;
 use crate::show::show;
 use crate::take::Taken;
 use crate::take::take_lines;
+use kinds::Mask;
 use rules::Size;
 use rules::bounds::TOP;
 use text::lines::line_end;
@@ -35,8 +35,8 @@ pub(crate) fn carry_out(
     requires { ⌜ (rulesRight (size .states) (size .values) (size .start .0) (now targets) (now costs) accepting ≡ true) × (1 ≤ days) × (days ≤ mostDays) × (from ≤ length (now text)) ⌝ }
     ensures { λ r. ⌜ Wrote (now (output .entry)) 0 (doneText (rulesOf (size .states) (size .values) (now (targets .entry)) (now (costs .entry)) accepting) (size .start .0) (readDecisions days (size .values) 2 mostLines (lines (drop from (now (text .entry)))))) (now (output .exit)) r ⌝ }
 {
-    let full = highest(size.values) as u16;
-    let mut mask_room = [full; DAYS];
+    let full = Mask::full(size.values);
+    let mut mask_room = [full.0; DAYS];
     let mut limit_room = [TOP; DAYS];
     let masks = &mut mask_room[..days];
     let limits = &mut limit_room[..days];

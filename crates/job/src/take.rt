@@ -9,6 +9,7 @@ ghost use Rattle.job.specs.Input.{mostDays, mostLines, readDecisions};
 ghost use Rattle.job.specs.Inner.{asks, AskedIn, Took};
 use crate::asks::Asked;
 use crate::asks::asked_of;
+use kinds::Mask;
 use rules::numbers::lesser;
 use text::lines::line_end;
 
@@ -31,7 +32,8 @@ pub(crate) fn take_one(asked: Asked, masks: &mut [u16], limits: &mut [u32])
 {
     match asked {
         Asked::Keep(place, mask) => {
-            masks[place] = masks[place] & mask;
+            let met = Mask(masks[place]).meet(mask);
+            masks[place] = met.0;
         }
         Asked::Limit(place, limit) => {
             limits[place] = lesser(limits[place], limit);

@@ -1,10 +1,9 @@
 use mathlib.Core.Path.{sym, ap, _∙_}
 use native.Mathlib.Omega.{arith}
-use lib.Pow.{pow-mono}
 use Rattle.text.specs.Lines.{wrong}
 use Rattle.text.proofs.Judging.{field-range, number-right, number-wrong, number-range, sealed-is}
 use Rattle.job.specs.Input.{readKeep}
-use Rattle.job.proofs.Asking.{ceiling-is}
+use Rattle.job.proofs.Asking.{full-is, ceiling-is}
 use borrow.Author.Needs.{needs}
 use Rattle.job.proofs.asks.keep_line.Statement.{statement}
 use Rattle.job.proofs.asks.keep_line.Tie as tie
@@ -33,8 +32,11 @@ returns c =
       inside = tt;
     }
 
-highest-requires : tie.Need-highest-requires
-highest-requires c κs = search needs
+full-requires : tie.Need-full-requires
+full-requires c κs = search needs
+
+cast-number-at : tie.Need-cast-number-at
+cast-number-at c = search needs
 
 number-at-requires : tie.Need-number-at-requires
 number-at-requires c κs = search needs
@@ -51,8 +53,8 @@ returns-2 c =
     record {
       reads =
           ap wrong (c .fault-of2 .ensures)
-          ∙ sym (number-right _ _ _ (c .before .before .before .before .before .before .before .field-at .ensures) _ _ _ (c .before .before .before .before .before .a .given .1)
-          ∙ number-wrong _ _ _ (ceiling-is _ _ _ _ _ _ (c .before .before .before .highest .ensures) (c .before .before .number-at .ensures)) _ (c .before .match2 .keys2));
+          ∙ sym (number-right _ _ _ (c .before .before .before .before .before .before .before .before .field-at .ensures) _ _ _ (c .before .before .before .before .before .before .a .given .1)
+          ∙ number-wrong _ _ _ (ceiling-is _ _ _ _ _ _ (full-is _ _ (c .before .before .before .before .before .before .before .before .before .before .pre .2) (c .before .before .before .before .full .ensures)) (c .before .before .number-at .ensures)) _ (c .before .match2 .keys2));
       inside = tt;
     }
 
@@ -62,13 +64,11 @@ close-at-requires c κs = search needs
 enum-told : tie.Need-enum-told
 enum-told c = search needs
 
-cast-t17 : tie.Need-cast-t17
-cast-t17 c = search needs
-
 cast-t18 : tie.Need-cast-t18
-cast-t18 c =
-    let n = number-range _ _ _ _ _ (ceiling-is _ _ _ _ _ _ (c .before .before .before .before .before .before .before .highest .ensures) (c .before .before .before .before .before .before .number-at .ensures)) _ _ (c .before .before .before .before .b .given .1) in
-    omega (arith, n, pow-mono {i = c .before .before .before .before .before .before .before .before .before .before .before .before .before .args .values} {j = 16} (c .before .before .before .before .before .before .before .before .before .before .before .before .before .pre .2))
+cast-t18 c = search needs
+
+cast-t19 : tie.Need-cast-t19
+cast-t19 c = omega (arith, number-range _ _ _ _ _ (c .before .before .before .before .before .before .number-at .ensures) _ _ (c .before .before .before .before .b .given .1))
 
 enum-known-e : tie.Need-enum-known-e
 enum-known-e c = search needs
@@ -78,10 +78,10 @@ unfolding readKeep
 returns-3 c =
     record {
       reads =
-          sym (number-right _ _ _ (c .before .before .before .before .before .before .before .before .before .before .before .field-at .ensures) _ _ _ (c .before .before .before .before .before .before .before .before .before .a .given .1)
-          ∙ number-right _ _ _ (ceiling-is _ _ _ _ _ _ (c .before .before .before .before .before .before .before .highest .ensures) (c .before .before .before .before .before .before .number-at .ensures)) _ _ _ (c .before .before .before .before .b .given .1)
+          sym (number-right _ _ _ (c .before .before .before .before .before .before .before .before .before .before .before .before .field-at .ensures) _ _ _ (c .before .before .before .before .before .before .before .before .before .before .a .given .1)
+          ∙ number-right _ _ _ (ceiling-is _ _ _ _ _ _ (full-is _ _ (c .before .before .before .before .before .before .before .before .before .before .before .before .before .before .pre .2) (c .before .before .before .before .before .before .before .before .full .ensures)) (c .before .before .before .before .before .before .number-at .ensures)) _ _ _ (c .before .before .before .before .b .given .1)
           ∙ sealed-is _ _ _ _ (c .before .before .close-at .ensures) (c .enum-told .given .1));
-      inside = omega (arith, field-range _ _ _ _ _ (c .before .before .before .before .before .before .before .before .before .before .before .field-at .ensures) _ _ (c .before .before .before .before .before .before .before .before .before .a .given .1));
+      inside = omega (arith, field-range _ _ _ _ _ (c .before .before .before .before .before .before .before .before .before .before .before .before .field-at .ensures) _ _ (c .before .before .before .before .before .before .before .before .before .before .a .given .1));
     }
 
 returns-4 : tie.Need-returns-4
@@ -89,8 +89,8 @@ unfolding readKeep
 returns-4 c =
     record {
       reads =
-          sym (number-right _ _ _ (c .before .before .before .before .before .before .before .before .before .before .before .before .field-at .ensures) _ _ _ (c .before .before .before .before .before .before .before .before .before .before .a .given .1)
-          ∙ number-right _ _ _ (ceiling-is _ _ _ _ _ _ (c .before .before .before .before .before .before .before .before .highest .ensures) (c .before .before .before .before .before .before .before .number-at .ensures)) _ _ _ (c .before .before .before .before .before .b .given .1)
+          sym (number-right _ _ _ (c .before .before .before .before .before .before .before .before .before .before .before .before .before .field-at .ensures) _ _ _ (c .before .before .before .before .before .before .before .before .before .before .before .a .given .1)
+          ∙ number-right _ _ _ (ceiling-is _ _ _ _ _ _ (full-is _ _ (c .before .before .before .before .before .before .before .before .before .before .before .before .before .before .before .pre .2) (c .before .before .before .before .before .before .before .before .before .full .ensures)) (c .before .before .before .before .before .before .before .number-at .ensures)) _ _ _ (c .before .before .before .before .before .b .given .1)
           ∙ sealed-is _ _ _ _ (c .before .before .before .close-at .ensures) (c .before .e .given .1));
       inside = tt;
     }
@@ -105,15 +105,16 @@ keep-line-spec =
     enum-known-a
     fault-of-requires
     returns
-    highest-requires
+    full-requires
+    cast-number-at
     number-at-requires
     enum-known-b
     fault-of-requires-2
     returns-2
     close-at-requires
     enum-told
-    cast-t17
     cast-t18
+    cast-t19
     enum-known-e
     returns-3
     returns-4)

@@ -3,25 +3,20 @@ use Prim.Native.Nat.{ℕ, _-_, _^_}
 use native.Mathlib.Omega.{arith}
 use lib.ListN.{drop, replicate}
 use lib.Seq.{length-take-le}
-use lib.Pow.{pow-mono}
 use Rattle.meaning.specs.Meaning.{rulesOf}
 use Rattle.meaning.specs.Bounds.{top}
 use Rattle.text.specs.Lines.{lines}
 use Rattle.job.specs.Input.{mostDays}
 use Rattle.job.specs.Output.{jobLine}
+use Rattle.job.proofs.Asking.{full-is}
 use Rattle.job.proofs.Showing.{wrote-is}
 use Rattle.job.proofs.Planning.{right-size, right-sizes, length-of, first-of, carried-wrong, carried-all, carried-right}
 use borrow.Author.Needs.{needs}
 use Rattle.job.proofs.plan.carry_out.Statement.{statement}
 use Rattle.job.proofs.plan.carry_out.Tie as tie
 
-highest-requires : tie.Need-highest-requires
-highest-requires c κs = let a = c .before .before .before .before .args in right-size (a .size .states) _ (a .size .start .0) (a .targets .now) (a .costs .now) (a .accepting) (c .before .before .before .before .pre .0) .few-values
-
-cast-full : tie.Need-cast-full
-cast-full c = let a = c .before .before .before .before .before .args in
-    let s = right-size (a .size .states) (a .size .values) (a .size .start .0) (a .targets .now) (a .costs .now) (a .accepting) (c .before .before .before .before .before .pre .0) in
-    omega (arith, c .highest .ensures, pow-mono {i = a .size .values} {j = 16} (s .few-values))
+full-requires : tie.Need-full-requires
+full-requires c κs = search needs
 
 array-borrow-prefix-mask-room : tie.Need-array-borrow-prefix-mask-room
 array-borrow-prefix-mask-room c = omega (arith, c .before .before .before .before .before .pre .2)
@@ -38,8 +33,9 @@ slice-aggregate-limits c = sym (length-take-le _ _ (omega (arith, c .before .bef
 take-lines-requires : tie.Need-take-lines-requires
 take-lines-requires c κs = let p = c .before .before .before .before .before .before .before .before .before .pre in
     let a = c .before .before .before .before .before .before .before .before .before .args in
-    let m = length-take-le (a .days) (replicate mostDays (c .before .before .before .before .highest .result)) (omega (arith, p .2)) in
-    (omega (arith, m, p .1), omega (arith, m, p .2), length-take-le _ _ (omega (arith, p .2)) ∙ sym m, right-size (a .size .states) _ (a .size .start .0) (a .targets .now) (a .costs .now) (a .accepting) (p .0) .few-values, p .3)
+    let s = right-size (a .size .states) (a .size .values) (a .size .start .0) (a .targets .now) (a .costs .now) (a .accepting) (p .0) in
+    let m = length-take-le (a .days) (replicate mostDays (c .before .before .before .before .full .result .0)) (omega (arith, p .2)) in
+    (omega (arith, m, p .1), omega (arith, m, p .2), length-take-le _ _ (omega (arith, p .2)) ∙ sym m, s .few-values, p .3)
 
 enum-known-taken : tie.Need-enum-known-taken
 enum-known-taken c = search needs
@@ -57,7 +53,8 @@ show-requires : tie.Need-show-requires
 unfolding top
 show-requires c κs = let p = c .before .before .before .before .before .before .before .before .before .before .before .before .before .before .before .before .before .before .before .pre in
     let a = c .before .before .before .before .before .before .before .before .before .before .before .before .before .before .before .before .before .before .before .args in
-    let full = first-of (a .days) mostDays (2 ^ a .size .values - 1) _ (p .2) (ap (λ (x : ℕ). replicate mostDays x) (c .before .before .before .before .before .before .before .before .before .before .before .before .before .before .highest .ensures)) in
+    let s = right-size (a .size .states) (a .size .values) (a .size .start .0) (a .targets .now) (a .costs .now) (a .accepting) (p .0) in
+    let full = first-of (a .days) mostDays (2 ^ a .size .values - 1) _ (p .2) (ap (λ (x : ℕ). replicate mostDays x) (full-is _ _ (s .few-values) (c .before .before .before .before .before .before .before .before .before .before .before .before .before .before .full .ensures))) in
     let tops = first-of (a .days) mostDays top _ (p .2) refl in (
       right-sizes (a .days) (a .size .states) (a .size .values) (a .size .start .0) (a .targets .now) (a .costs .now) (a .accepting) (p .1) (p .2) (p .0),
       p .0,
@@ -74,7 +71,8 @@ returns : tie.Need-returns
 unfolding jobLine top
 returns c = let p = c .before .before .before .before .before .before .before .before .before .before .before .before .before .before .before .before .before .before .before .before .before .before .before .before .pre in
     let a = c .before .before .before .before .before .before .before .before .before .before .before .before .before .before .before .before .before .before .before .before .before .before .before .before .args in
-    wrote-is _ _ _ _ _ _ (carried-wrong (rulesOf (a .size .states) (a .size .values) (a .targets .now) (a .costs .now) (a .accepting)) (a .size .start .0) (a .days) (lines (drop (a .from) (a .text .now))) _ _ _ _ (c .before .before .before .before .before .before .before .before .before .before .before .before .before .before .take-lines .result) (first-of (a .days) mostDays (2 ^ a .size .values - 1) _ (p .2) (ap (λ (x : ℕ). replicate mostDays x) (c .before .before .before .before .before .before .before .before .before .before .before .before .before .before .before .before .before .before .before .highest .ensures))) (first-of (a .days) mostDays top _ (p .2) refl) (c .before .before .before .before .before .before .before .before .before .before .before .before .before .before .take-lines .ensures) _ (c .before .before .before .before .before .before .before .before .taken .given .1)) (c .before .before .put-line .ensures)
+    let s = right-size (a .size .states) (a .size .values) (a .size .start .0) (a .targets .now) (a .costs .now) (a .accepting) (p .0) in
+    wrote-is _ _ _ _ _ _ (carried-wrong (rulesOf (a .size .states) (a .size .values) (a .targets .now) (a .costs .now) (a .accepting)) (a .size .start .0) (a .days) (lines (drop (a .from) (a .text .now))) _ _ _ _ (c .before .before .before .before .before .before .before .before .before .before .before .before .before .before .take-lines .result) (first-of (a .days) mostDays (2 ^ a .size .values - 1) _ (p .2) (ap (λ (x : ℕ). replicate mostDays x) (full-is _ _ (s .few-values) (c .before .before .before .before .before .before .before .before .before .before .before .before .before .before .before .before .before .before .before .full .ensures)))) (first-of (a .days) mostDays top _ (p .2) refl) (c .before .before .before .before .before .before .before .before .before .before .before .before .before .before .take-lines .ensures) _ (c .before .before .before .before .before .before .before .before .taken .given .1)) (c .before .before .put-line .ensures)
 
 same-length-2 : tie.Need-same-length-2
 same-length-2 c = search needs
@@ -83,14 +81,14 @@ returns-2 : tie.Need-returns-2
 unfolding top
 returns-2 c = let p = c .before .before .before .before .before .before .before .before .before .before .before .before .before .before .before .before .before .before .before .before .before .before .before .before .pre in
     let a = c .before .before .before .before .before .before .before .before .before .before .before .before .before .before .before .before .before .before .before .before .before .before .before .before .args in
-    wrote-is _ _ _ _ _ _ (carried-all (rulesOf (a .size .states) (a .size .values) (a .targets .now) (a .costs .now) (a .accepting)) (a .size .start .0) (a .days) (lines (drop (a .from) (a .text .now))) _ _ _ _ (c .before .before .before .before .before .before .before .before .before .before .before .before .before .before .take-lines .result) (first-of (a .days) mostDays (2 ^ a .size .values - 1) _ (p .2) (ap (λ (x : ℕ). replicate mostDays x) (c .before .before .before .before .before .before .before .before .before .before .before .before .before .before .before .before .before .before .before .highest .ensures))) (first-of (a .days) mostDays top _ (p .2) refl) (c .before .before .before .before .before .before .before .before .before .before .before .before .before .before .take-lines .ensures) (c .before .before .before .before .before .before .before .before .enum-told .given .1)) (c .before .before .before .before .show .ensures)
+    let s = right-size (a .size .states) (a .size .values) (a .size .start .0) (a .targets .now) (a .costs .now) (a .accepting) (p .0) in
+    wrote-is _ _ _ _ _ _ (carried-all (rulesOf (a .size .states) (a .size .values) (a .targets .now) (a .costs .now) (a .accepting)) (a .size .start .0) (a .days) (lines (drop (a .from) (a .text .now))) _ _ _ _ (c .before .before .before .before .before .before .before .before .before .before .before .before .before .before .take-lines .result) (first-of (a .days) mostDays (2 ^ a .size .values - 1) _ (p .2) (ap (λ (x : ℕ). replicate mostDays x) (full-is _ _ (s .few-values) (c .before .before .before .before .before .before .before .before .before .before .before .before .before .before .before .before .before .before .before .full .ensures)))) (first-of (a .days) mostDays top _ (p .2) refl) (c .before .before .before .before .before .before .before .before .before .before .before .before .before .before .take-lines .ensures) (c .before .before .before .before .before .before .before .before .enum-told .given .1)) (c .before .before .before .before .show .ensures)
 
 pub carry-out-spec : {M : Type 1} → statement M
 carry-out-spec =
     tie.close
     (tie.spec
-    highest-requires
-    cast-full
+    full-requires
     array-borrow-prefix-mask-room
     slice-aggregate-masks
     array-borrow-prefix-limit-room

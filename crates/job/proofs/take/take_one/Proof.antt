@@ -7,17 +7,20 @@ use Rattle.job.proofs.take.take_one.Tie as tie
 enum-known-asked : tie.Need-enum-known-asked
 enum-known-asked c = search needs
 
+mul-t9 : tie.Need-mul-t9
+mul-t9 c = omega (arith, asked-in _ _ _ _ (c .before .asked .given .1) (c .before .before .before .before .before .pre))
+
+slice-read-t11 : tie.Need-slice-read-t11
+slice-read-t11 c = asked-in _ _ _ _ (c .before .before .asked .given .1) (c .before .before .before .before .before .before .pre)
+
+meet-requires : tie.Need-meet-requires
+meet-requires c κs = search needs
+
 mul-masks : tie.Need-mul-masks
-mul-masks c = omega (arith, asked-in _ _ _ _ (c .before .asked .given .1) (c .before .before .before .before .before .pre))
-
-slice-read-masks : tie.Need-slice-read-masks
-slice-read-masks c = asked-in _ _ _ _ (c .before .before .asked .given .1) (c .before .before .before .before .before .before .pre)
-
-mul-masks-2 : tie.Need-mul-masks-2
-mul-masks-2 c = omega (arith, asked-in _ _ _ _ (c .before .before .asked .given .1) (c .before .before .before .before .before .before .pre))
+mul-masks c = omega (arith, asked-in _ _ _ _ (c .before .before .before .asked .given .1) (c .before .before .before .before .before .before .before .pre))
 
 slice-write-masks : tie.Need-slice-write-masks
-slice-write-masks c = asked-in _ _ _ _ (c .before .before .asked .given .1) (c .before .before .before .before .before .before .pre)
+slice-write-masks c = asked-in _ _ _ _ (c .before .before .before .asked .given .1) (c .before .before .before .before .before .before .before .pre)
 
 enum-known-asked-2 : tie.Need-enum-known-asked-2
 enum-known-asked-2 c = search needs
@@ -44,7 +47,7 @@ same-length : tie.Need-same-length
 same-length c = search needs
 
 returns : tie.Need-returns
-returns c = keep-taken _ _ _ _ _ (c .before .before .asked .given .1)
+returns c = keep-taken _ _ _ _ _ _ (c .before .before .before .asked .given .1) (c .meet .ensures) (omega (arith, c .before .slice-known3 .given (c .before .before .before .asked .given .0 .0))) (omega arith)
 
 same-length-2 : tie.Need-same-length-2
 same-length-2 c = search needs
@@ -60,9 +63,10 @@ take-one-spec =
     tie.close
     (tie.spec
     enum-known-asked
+    mul-t9
+    slice-read-t11
+    meet-requires
     mul-masks
-    slice-read-masks
-    mul-masks-2
     slice-write-masks
     enum-known-asked-2
     mul-lesser
