@@ -10,11 +10,12 @@ use crate::alone;
 use kinds::State;
 use kinds::Value;
 use reach::forward;
+use reach::forward::PAST;
 use reach::walk;
 use rooms::backward;
 use rooms::backward::BYTES;
+use rooms::rows;
 use rules::bounds;
-use rules::numbers::clear;
 
 // The filter of a rule set that was found in order: the least cost, one more than the top where no roster is allowed.
 pub(crate) fn filter_from(
@@ -39,6 +40,8 @@ pub(crate) fn filter_from(
     let mut front = [0u32; bounds::MOST_STATES];
     let mut onward = [0u32; BYTES];
     let mut hints = [0u8; bounds::MOST_VALUES];
+    let mut fronts = [0u32; PAST];
+    let mut onwards = [0u32; PAST];
     backward::prepare(
         states,
         values,
@@ -65,9 +68,11 @@ pub(crate) fn filter_from(
         &mut next,
         &mut onward,
         &mut hints,
+        &mut fronts,
+        &mut onwards,
         kept,
     );
-    clear(work);
+    rows::wipe(work);
     least
 }
 
@@ -122,6 +127,6 @@ pub(crate) fn first_from(
         &mut next,
         roster,
     );
-    clear(work);
+    rows::wipe(work);
     found
 }

@@ -1,4 +1,5 @@
 pub mod Reach
+pub mod Rising
 pub mod Front
 pub mod Verdicts
 pub mod Sweeping

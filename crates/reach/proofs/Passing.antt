@@ -20,7 +20,7 @@ use Rattle.meaning.proofs.Members.{length-places}
 use Rattle.meaning.proofs.Kept.{kept-length, kept-at}
 use Rattle.meaning.proofs.Lists.{any-in}
 use Rattle.rooms.specs.Tables.{Filled, choices, Net, frame, layer, room, capped, Loaded}
-use Rattle.reach.specs.Looks.{looks, lands, reach, marks, struck, lowest, Low, LowRows, Swept, Opened, Stepped, Meant, Tells}
+use Rattle.reach.specs.Looks.{looks, lands, reach, marks, struck, lowest, Low, LowRows, Keeps, Spread, Blank, Opened, Stepped, Meant, Tells}
 use Rattle.rooms.proofs.Rooms.{choice-in}
 use Rattle.reach.proofs.Reach.{looks-in}
 use Rattle.rooms.proofs.Layering.{drop-places, copied-row, row-copied}
@@ -62,15 +62,15 @@ opened-is {n} {start} {spent} {room} {x} {was} {mid} h l f e = record { right = 
     go q k (yes d) = rw (d, eq-eqb start start refl) (getD-set-same mid start x 0 (omega arith) ∙ e)
     go q k (no d) = rw (ne-eqb q start d) (getD-set-other mid start q x 0 d ∙ f .done q k)
 
-pub stepped-is : {a : Net} {qs x : ℕ} {vs row front next onward mid front′ next′ onward′ : List ℕ} → Filled (λ k. getD row k 0) qs next next′
-    → Swept a qs vs front next′ onward mid x → Filled (λ q. struck (getD mid q 0) (getD next′ q 0)) qs front front′ → Filled (λ k. 366001) qs mid onward′
+pub stepped-is : {a : Net} {qs x : ℕ} {vs row front next onward mid front′ next′ onward′ : List ℕ} → Blank qs onward → Filled (λ k. getD row k 0) qs next next′
+    → Keeps a qs vs front next′ x → Spread a qs vs front mid → Filled (λ q. struck (getD mid q 0) (getD next′ q 0)) qs front front′ → Filled (λ k. 366001) qs mid onward′
     → Stepped a qs vs row front next onward front′ next′ onward′ x
 unfolding top
-stepped-is l w f b = record {
+stepped-is n l k w f b = record {
   loaded = l;
-  costs = λ t h. f .done t h ∙ rw (w .costs t);
-  values = w .values;
-  small = w .small;
+  costs = λ t h. f .done t h ∙ rw (w .right t h, n .none t h);
+  values = k .values;
+  small = k .small;
   blank = b .done;
 }
 

@@ -15,7 +15,7 @@ use Rattle.kinds.proofs.Bits.{bit-mask, bit-none, mask-is, mask-lt}
 use Rattle.meaning.specs.Bounds.{top}
 use Rattle.meaning.proofs.Lists.{in-any}
 use Rattle.rooms.specs.Tables.{down, choices, turned}
-use Rattle.reach.specs.Looks.{along, looks, reach, marks, arrive, joins, struck, lowest, Pushed, Swept}
+use Rattle.reach.specs.Looks.{along, looks, reach, marks, arrive, joins, struck, lowest, Pushed, Swept, Keeps}
 use Rattle.rooms.proofs.Rooms.{in-down}
 use Rattle.rooms.proofs.Filling.{row-part}
 use Rattle.rooms.proofs.Raising.{choices-none, choices-more, choices-skip}
@@ -84,23 +84,41 @@ module _ (ts cs : List ℕ) (v k : ℕ) (front : List ℕ) where
       spread true false false = refl
       spread false b d = refl
 
--- value by value
-module _ (ts cs : List ℕ) (qs m : ℕ) (front next : List ℕ) where
-  pub swept-none : (was : List ℕ) → Swept (turned ts cs) qs (choices 0 m) front next was was 0
-  unfolding reach marks
-  swept-none was = record { costs = λ t. rw choices-none; values = λ v h. rw choices-none (bit-none v); small = omega arith }
+-- value by value: the least costs
+module _ (ts cs : List ℕ) (qs m : ℕ) (front : List ℕ) where
+  pub swept-none : (was : List ℕ) → Swept (turned ts cs) qs (choices 0 m) front was was
+  unfolding reach
+  swept-none was = record { costs = λ t. rw choices-none }
 
-  pub swept-more : (v k : ℕ) {was mid is : List ℕ} {x y : ℕ} → bit m v ≡ true → qs ≤ k
-      → Swept (turned ts cs) qs (choices v m) front next was mid x
+  pub swept-more : (v k : ℕ) {was mid is : List ℕ} → bit m v ≡ true → qs ≤ k → Swept (turned ts cs) qs (choices v m) front was mid
       → Pushed (take k (drop (v * 64) ts)) (take k (drop (v * 64) cs)) front qs mid is
-      → y ≡ maskOf (λ u. bit x u || (joins (take k (drop (v * 64) ts)) (take k (drop (v * 64) cs)) front next qs && eqb u v)) width
-      → {out : List ℕ} {z : ℕ} → out ≡ is → z ≡ y → Swept (turned ts cs) qs (choices (v + 1) m) front next was out z
-  swept-more v k {was} {mid} {is} {x} {y} e h s p z {out} d f =
-      let on : Bool = joins (take k (drop (v * 64) ts)) (take k (drop (v * 64) cs)) front next qs in
-      rw (d, f) (record {
+      → {out : List ℕ} → out ≡ is → Swept (turned ts cs) qs (choices (v + 1) m) front was out
+  swept-more v k {was} {mid} {is} e h s p {out} d =
+      rw d (record {
         costs = λ t. rw (choices-more v m e) (p .right t ∙ (arrive-is ts cs v k front (getD mid t 0) t qs h
             ∙ (ap (λ (b : ℕ). reach (turned ts cs) (λ q. getD front q 0) b t (along qs v)) (s .costs t)
             ∙ sym (reach-join (turned ts cs) (λ q. getD front q 0) (getD was t 0) t (along qs v) (looks qs (choices v m))))));
+      })
+
+  pub swept-skip : (v : ℕ) {was mid : List ℕ} → bit m v ≡ false → Swept (turned ts cs) qs (choices v m) front was mid
+      → {out : List ℕ} → out ≡ mid → Swept (turned ts cs) qs (choices (v + 1) m) front was out
+  swept-skip v e s d = rw (choices-skip v m e, d) s
+
+  pub swept-end : {v vs : ℕ} {was is : List ℕ} → v ≤ vs → vs ≤ v → Swept (turned ts cs) qs (choices v m) front was is → Swept (turned ts cs) qs (choices vs m) front was is
+  swept-end {v} {vs} h k s = let e : v ≡ vs = omega arith in rw e at s
+
+-- value by value: those that are kept
+module _ (ts cs : List ℕ) (qs m : ℕ) (front next : List ℕ) where
+  pub keeps-none : Keeps (turned ts cs) qs (choices 0 m) front next 0
+  unfolding marks
+  keeps-none = record { values = λ v h. rw choices-none (bit-none v); small = omega arith }
+
+  pub keeps-more : (v k : ℕ) {x y : ℕ} → bit m v ≡ true → qs ≤ k → Keeps (turned ts cs) qs (choices v m) front next x
+      → y ≡ maskOf (λ u. bit x u || (joins (take k (drop (v * 64) ts)) (take k (drop (v * 64) cs)) front next qs && eqb u v)) width
+      → {z : ℕ} → z ≡ y → Keeps (turned ts cs) qs (choices (v + 1) m) front next z
+  keeps-more v k {x} {y} e h s z f =
+      let on : Bool = joins (take k (drop (v * 64) ts)) (take k (drop (v * 64) cs)) front next qs in
+      rw f (record {
         values = λ u l. rw (choices-more v m e) (ap (λ (n : ℕ). bit n u) z ∙ (bit-mask (λ u. bit x u || (on && eqb u v)) width u l
             ∙ (or-comm (bit x u) _
             ∙ (rw (joins-is ts cs v k front next u qs h, s .values u l)
@@ -108,13 +126,11 @@ module _ (ts cs : List ℕ) (qs m : ℕ) (front next : List ℕ) where
         small = rw z (mask-lt (λ u. bit x u || (on && eqb u v)) width);
       })
 
-  pub swept-skip : (v : ℕ) {was mid : List ℕ} {x : ℕ} → bit m v ≡ false → Swept (turned ts cs) qs (choices v m) front next was mid x
-      → {out : List ℕ} {z : ℕ} → out ≡ mid → z ≡ x → Swept (turned ts cs) qs (choices (v + 1) m) front next was out z
-  swept-skip v e s d f = rw (choices-skip v m e, d, f) s
+  pub keeps-skip : (v : ℕ) {x : ℕ} → bit m v ≡ false → Keeps (turned ts cs) qs (choices v m) front next x → {z : ℕ} → z ≡ x → Keeps (turned ts cs) qs (choices (v + 1) m) front next z
+  keeps-skip v e s f = rw (choices-skip v m e, f) s
 
-  pub swept-end : {v vs : ℕ} {was is : List ℕ} {x : ℕ} → v ≤ vs → vs ≤ v → Swept (turned ts cs) qs (choices v m) front next was is x
-      → Swept (turned ts cs) qs (choices vs m) front next was is x
-  swept-end {v} {vs} h k s = let e : v ≡ vs = omega arith in rw e at s
+  pub keeps-end : {v vs x : ℕ} → v ≤ vs → vs ≤ v → Keeps (turned ts cs) qs (choices v m) front next x → Keeps (turned ts cs) qs (choices vs m) front next x
+  keeps-end {v} {vs} h k s = let e : v ≡ vs = omega arith in rw e at s
 
 pub struck-yes : (x n : ℕ) → x < n → x ≡ struck x n
 struck-yes x n h = rw (lt-ltb x n h)

@@ -9,7 +9,7 @@ use Rattle.kinds.specs.Bits.{width, bit, maskOf}
 use Rattle.meaning.specs.Meaning.{arcsOf, rulesOf, cost, places, rosters, verdict, verdictOf}
 use Rattle.meaning.specs.Lists.{each, any}
 use Rattle.meaning.specs.Bounds.{mostStates, top}
-use Rattle.rooms.specs.Tables.{down, Net, Same, frame, Filled, room, Layers}
+use Rattle.rooms.specs.Tables.{down, choices, Net, Same, frame, Filled, room, Layers}
 
 -- FORWARD. A look at a value from a state; `front` has the least cost at each state, one more than the top where there is none.
 pub record Look : Type 0 where
@@ -91,11 +91,43 @@ pub record Opened (n start spent room : ℕ) (front : List ℕ) : Type 0 where
 pub record Pushed (ts cs front : List ℕ) (n : ℕ) (was is : List ℕ) : Type 0 where
   pub right : (t : ℕ) → getD is t 0 ≡ arrive ts cs front (getD was t 0) t n
 
--- the looks at the values of a mask: the least costs, and the values that are kept
-pub record Swept (a : Net) (qs : ℕ) (vs : List ℕ) (front next was is : List ℕ) (kept : ℕ) : Type 0 where
+-- the looks at the values of a mask: the least costs
+pub record Swept (a : Net) (qs : ℕ) (vs : List ℕ) (front was is : List ℕ) : Type 0 where
   pub costs : (t : ℕ) → getD is t 0 ≡ reach a (λ q. getD front q 0) (getD was t 0) t (looks qs vs)
+
+-- and the values that are kept
+pub record Keeps (a : Net) (qs : ℕ) (vs : List ℕ) (front next : List ℕ) (kept : ℕ) : Type 0 where
   pub values : (v : ℕ) → v < width → bit kept v ≡ marks a (λ t. getD next t 0) (λ q. getD front q 0) v (looks qs vs)
   pub small : kept < 2 ^ width
+
+-- the least costs of all looks from a front
+pub record Spread (a : Net) (qs : ℕ) (vs : List ℕ) (front is : List ℕ) : Type 0 where
+  pub right : (t : ℕ) → t < qs → getD is t 0 ≡ reach a (λ q. getD front q 0) (suc top) t (looks qs vs)
+
+-- a row that holds no cost
+pub record Blank (n : ℕ) (row : List ℕ) : Type 0 where
+  pub none : (t : ℕ) → t < n → getD row t 0 ≡ suc top
+
+-- THE PAST. The fronts in eight slots; a slot that holds mask 0 is empty:
+pub record Lows (n : ℕ) (fronts held : List ℕ) : Type 0 where
+  pub low : (s k : ℕ) → s < 8 → 0 < getD held s 0 → k < n → getD fronts (s * mostStates + k) 0 ≤ suc top
+
+-- a slot that has a mask, and a front but for a rise, if it is no greater than a rise can be
+pub record Known (n mask slot rise : ℕ) (front fronts held : List ℕ) : Type 0 where
+  pub some : rise ≤ suc top → 0 < getD held slot 0
+  pub same : rise ≤ suc top → getD held slot 0 ≡ mask
+  pub row : rise ≤ suc top → (k : ℕ) → k < n → getD front k 0 ≡ min (suc top) (getD fronts (slot * mostStates + k) 0 + rise)
+
+-- a row noted in a slot, the other slots being as they were
+pub record Slotted (n slot : ℕ) (row was is : List ℕ) : Type 0 where
+  pub there : (k : ℕ) → k < n → getD is (slot * mostStates + k) 0 ≡ getD row k 0
+  pub others : (s k : ℕ) → (s ≡ slot → ⊥) → k < mostStates → getD is (s * mostStates + k) 0 ≡ getD was (s * mostStates + k) 0
+
+-- the slots that are not empty have a front, a mask and the least costs of its looks
+pub record Past (a : Net) (qs vs : ℕ) (fronts onwards held : List ℕ) : Type 0 where
+  pub lows : Lows qs fronts held
+  pub right : (s t : ℕ) → s < 8 → 0 < getD held s 0 → t < qs
+      → getD onwards (s * mostStates + t) 0 ≡ reach a (λ q. getD fronts (s * mostStates + q) 0) (suc top) t (looks qs (choices vs (getD held s 0)))
 
 -- one place of the forward pass
 pub record Stepped (a : Net) (qs : ℕ) (vs row front next onward front′ next′ onward′ : List ℕ) (kept : ℕ) : Type 0 where

@@ -5,16 +5,21 @@ ghost use Prim.Native.Nat.{suc, _+_, _*_, _≤_, _<_};
 ghost use lib.Dec.{ltb, eqb};
 ghost use lib.ListN.{length, getD};
 ghost use Rattle.kinds.specs.Bits.{width, bit, maskOf};
-ghost use Rattle.meaning.specs.Bounds.{mostStates, mostValues, tableSize, top};
+ghost use Rattle.meaning.specs.Bounds.{mostPlaces, mostStates, mostValues, tableSize, top};
 ghost use Rattle.rooms.specs.Tables.{Filled, turned, choices, Loaded, Sizes};
-ghost use Rattle.reach.specs.Looks.{joins, struck, lowest, liveOf, LiveHeld, Low, LowRows, Rooms, Pushed, Swept, Opened, Stepped, Tells};
+ghost use Rattle.reach.specs.Looks.{joins, struck, lowest, liveOf, LiveHeld, Low, LowRows, Rooms, Pushed, Swept, Keeps, Spread, Blank, Past, Opened, Stepped, Tells};
+use crate::past;
 use kinds::Mask;
 use kinds::State;
 use kinds::Value;
+use rooms::backward::MOST_SPAN;
 use rooms::rows;
 use rules::bounds;
 use rules::bounds::TOP;
 use rules::numbers::lesser;
+
+// As many numbers as the slots of the past hold, a row each.
+pub const PAST: usize = 512;
 
 // The live states of a front, state q being bit q: those that it has a cost at. The bit is carried along, so that the loop stays a
 // plain one: as 1 << q it was made a vector loop, whose constants every place had to load.
@@ -163,7 +168,7 @@ pub(crate) fn cheapest(states: usize, front: &[u32]) -> u32
     least
 }
 
-// The look at one value: it is put into the mask if it is kept, and its arcs lower the least costs.
+// The look at one value: it is put into the mask if it is kept.
 pub(crate) fn look(
     states: usize,
     targets: &[u8],
@@ -173,19 +178,17 @@ pub(crate) fn look(
     next: &[u32],
     v: Value,
     kept: Mask,
-    onward: &mut [u32],
     hints: &mut [u8],
 ) -> Mask
-    requires { ⌜ (states ≤ mostStates) × (states ≤ length (now targets)) × (states ≤ length (now costs)) × (states ≤ length (now front)) × (length (now next) ≡ 256) × (length (now onward) ≡ 256) × Low states (now front) × (v .0 < length (now hints)) × LiveHeld states (now front) (now live) × Rooms (now next) ⌝ }
-    ensures { λ r. ⌜ (r .0 ≡ maskOf (λ u. bit (kept .0) u || (joins (now (targets .entry)) (now (costs .entry)) (now (front .entry)) (now (next .entry)) states && eqb u (v .0))) width) × Pushed (now (targets .entry)) (now (costs .entry)) (now (front .entry)) states (now (onward .entry)) (now (onward .exit)) × LiveHeld states (now (front .entry)) (now (live .exit)) ⌝ }
+    requires { ⌜ (states ≤ mostStates) × (states ≤ length (now targets)) × (states ≤ length (now costs)) × (states ≤ length (now front)) × (length (now next) ≡ 256) × Low states (now front) × (v .0 < length (now hints)) × LiveHeld states (now front) (now live) × Rooms (now next) ⌝ }
+    ensures { λ r. ⌜ (r .0 ≡ maskOf (λ u. bit (kept .0) u || (joins (now (targets .entry)) (now (costs .entry)) (now (front .entry)) (now (next .entry)) states && eqb u (v .0))) width) × LiveHeld states (now (front .entry)) (now (live .exit)) ⌝ }
 {
     let on = supported(states, targets, costs, front, live, next, Value(v.0), hints);
-    push(states, targets, costs, front, onward);
     marked(kept, v, on)
 }
 
-// The looks at the values of a mask: the least costs one place on, and the mask of the values that are kept.
-pub(crate) fn sweep(
+// The values of a mask that are kept.
+pub(crate) fn keep(
     states: usize,
     values: usize,
     targets: &[u8],
@@ -193,11 +196,10 @@ pub(crate) fn sweep(
     mask: Mask,
     front: &[u32],
     next: &[u32],
-    onward: &mut [u32],
     hints: &mut [u8],
 ) -> Mask
-    requires { ⌜ (states ≤ mostStates) × (values ≤ mostValues) × (length (now targets) ≡ tableSize) × (length (now costs) ≡ tableSize) × (states ≤ length (now front)) × (length (now next) ≡ 256) × (length (now onward) ≡ 256) × (length (now hints) ≡ mostValues) × Low states (now front) × Rooms (now next) ⌝ }
-    ensures { λ r. ⌜ Swept (turned (now (targets .entry)) (now (costs .entry))) states (choices values (mask .0)) (now (front .entry)) (now (next .entry)) (now (onward .entry)) (now (onward .exit)) (r .0) ⌝ }
+    requires { ⌜ (states ≤ mostStates) × (values ≤ mostValues) × (length (now targets) ≡ tableSize) × (length (now costs) ≡ tableSize) × (states ≤ length (now front)) × (length (now next) ≡ 256) × (length (now hints) ≡ mostValues) × Low states (now front) × Rooms (now next) ⌝ }
+    ensures { λ r. ⌜ Keeps (turned (now (targets .entry)) (now (costs .entry))) states (choices values (mask .0)) (now (front .entry)) (now (next .entry)) (r .0) ⌝ }
 {
     let mut live: u64 = 0;
     let mut kept: u16 = 0;
@@ -215,13 +217,123 @@ pub(crate) fn sweep(
                 next,
                 Value(v),
                 Mask(kept),
-                onward,
                 hints,
             ).0;
         }
         v += 1;
     }
     Mask(kept)
+}
+
+// The least costs one place on, lowered by the arcs on the values of a mask.
+pub(crate) fn sweep(
+    states: usize,
+    values: usize,
+    targets: &[u8],
+    costs: &[u16],
+    mask: Mask,
+    front: &[u32],
+    onward: &mut [u32],
+)
+    requires { ⌜ (states ≤ mostStates) × (values ≤ mostValues) × (length (now targets) ≡ tableSize) × (length (now costs) ≡ tableSize) × (states ≤ length (now front)) × (length (now onward) ≡ 256) × Low states (now front) ⌝ }
+    ensures { λ _. ⌜ Swept (turned (now (targets .entry)) (now (costs .entry))) states (choices values (mask .0)) (now (front .entry)) (now (onward .entry)) (now (onward .exit)) ⌝ }
+{
+    let mut v: u8 = 0;
+    while (v as usize) < values {
+        if mask.has(Value(v)) {
+            let at = (v as usize) * bounds::MOST_STATES;
+            let end = at + bounds::MOST_STATES;
+            push(states, &targets[at..end], &costs[at..end], front, onward);
+        }
+        v += 1;
+    }
+}
+
+// The least costs one place on: those of a slot with their rise, if its front and mask are these, which with equal masks they soon
+// are; else by the looks. Says which.
+pub(crate) fn gather(
+    states: usize,
+    values: usize,
+    targets: &[u8],
+    costs: &[u16],
+    mask: Mask,
+    slot: usize,
+    front: &[u32],
+    fronts: &[u32],
+    onwards: &[u32],
+    held: &[u32],
+    onward: &mut [u32],
+) -> bool
+    requires { ⌜ (1 ≤ states) × (states ≤ mostStates) × (values ≤ mostValues) × (length (now targets) ≡ tableSize) × (length (now costs) ≡ tableSize) × (slot < 8) × (states ≤ length (now front)) × (length (now fronts) ≡ 512) × (length (now onwards) ≡ 512) × (length (now held) ≡ 8) × (length (now onward) ≡ 256) × Low states (now front) × Blank states (now onward) × Past (turned (now targets) (now costs)) states values (now fronts) (now onwards) (now held) ⌝ }
+    ensures { λ _. ⌜ Spread (turned (now (targets .entry)) (now (costs .entry))) states (choices values (mask .0)) (now (front .entry)) (now (onward .exit)) ⌝ }
+{
+    let rise = past::rise_to(states, Mask(mask.0), slot, front, fronts, held);
+    if rise <= TOP + 1 {
+        let at = slot * bounds::MOST_STATES;
+        let end = at + bounds::MOST_STATES;
+        past::lift(states, rise, &onwards[at..end], onward);
+        return true;
+    }
+    sweep(states, values, targets, costs, mask, front, onward);
+    false
+}
+
+// The slot of a place, and of the place a span before it.
+pub(crate) fn slot_of(place: usize, span: usize) -> usize
+    requires { ⌜ (place ≤ mostPlaces) × (span ≤ 8) ⌝ }
+    ensures { λ r. ⌜ r < 8 ⌝ }
+{
+    (place + MOST_SPAN - span) % MOST_SPAN
+}
+
+// The span to try at the next place: the same where it served, else the next one, round from 8 to 1.
+pub(crate) fn span_after(found: bool, span: usize) -> usize
+    requires { ⌜ (1 ≤ span) × (span ≤ 8) ⌝ }
+    ensures { λ r. ⌜ (1 ≤ r) × (r ≤ 8) ⌝ }
+{
+    if found { span } else { span % MOST_SPAN + 1 }
+}
+
+// The least costs one place on, noted for the places after it. Gives the span to try at the next place.
+pub(crate) fn spread(
+    states: usize,
+    values: usize,
+    targets: &[u8],
+    costs: &[u16],
+    mask: Mask,
+    place: usize,
+    again: bool,
+    span: usize,
+    front: &[u32],
+    onward: &mut [u32],
+    fronts: &mut [u32],
+    onwards: &mut [u32],
+    held: &mut [u32],
+) -> usize
+    requires { ⌜ (1 ≤ states) × (states ≤ mostStates) × (values ≤ mostValues) × (length (now targets) ≡ tableSize) × (length (now costs) ≡ tableSize) × (place ≤ mostPlaces) × (1 ≤ span) × (span ≤ 8) × (states ≤ length (now front)) × (length (now onward) ≡ 256) × (length (now fronts) ≡ 512) × (length (now onwards) ≡ 512) × (length (now held) ≡ 8) × Low states (now front) × Blank states (now onward) × Past (turned (now targets) (now costs)) states values (now fronts) (now onwards) (now held) ⌝ }
+    ensures { λ r. ⌜ (1 ≤ r) × (r ≤ 8) × Spread (turned (now (targets .entry)) (now (costs .entry))) states (choices values (mask .0)) (now (front .entry)) (now (onward .exit)) × Past (turned (now (targets .entry)) (now (costs .entry))) states values (now (fronts .exit)) (now (onwards .exit)) (now (held .exit)) ⌝ }
+{
+    let like = slot_of(place, span);
+    let found = gather(
+        states,
+        values,
+        targets,
+        costs,
+        Mask(mask.0),
+        like,
+        front,
+        fronts,
+        onwards,
+        held,
+        onward,
+    );
+    let after = span_after(found, span);
+    if !past::to_note(found, again, span) {
+        return after;
+    }
+    let slot = slot_of(place, 0);
+    past::note(states, mask, slot, front, onward, fronts, onwards, held);
+    after
 }
 
 // The front before the first place: the start alone, at the cost already spent, if a roster goes on from there.
@@ -240,26 +352,46 @@ pub(crate) fn step(
     targets: &[u8],
     costs: &[u16],
     mask: Mask,
+    place: usize,
+    again: bool,
     row: &[u32],
+    span: &mut usize,
     front: &mut [u32],
     next: &mut [u32],
     onward: &mut [u32],
     hints: &mut [u8],
+    fronts: &mut [u32],
+    onwards: &mut [u32],
+    held: &mut [u32],
 ) -> Mask
-    requires { ⌜ (states ≤ mostStates) × (values ≤ mostValues) × (length (now targets) ≡ tableSize) × (length (now costs) ≡ tableSize) × (states ≤ length (now row)) × (states ≤ length (now front)) × (length (now next) ≡ 256) × (length (now onward) ≡ 256) × (length (now hints) ≡ mostValues) × Low states (now front) × Low states (now row) × Loaded (λ t. getD (now next) t 0) states (now next) ⌝ }
-    ensures { λ r. ⌜ Stepped (turned (now (targets .entry)) (now (costs .entry))) states (choices values (mask .0)) (now (row .entry)) (now (front .entry)) (now (next .entry)) (now (onward .entry)) (now (front .exit)) (now (next .exit)) (now (onward .exit)) (r .0) ⌝ }
+    requires { ⌜ (1 ≤ states) × (states ≤ mostStates) × (values ≤ mostValues) × (length (now targets) ≡ tableSize) × (length (now costs) ≡ tableSize) × (place ≤ mostPlaces) × (states ≤ length (now row)) × (1 ≤ now span) × (now span ≤ 8) × (states ≤ length (now front)) × (length (now next) ≡ 256) × (length (now onward) ≡ 256) × (length (now hints) ≡ mostValues) × (length (now fronts) ≡ 512) × (length (now onwards) ≡ 512) × (length (now held) ≡ 8) × Low states (now front) × Low states (now row) × Loaded (λ t. getD (now next) t 0) states (now next) × Blank states (now onward) × Past (turned (now targets) (now costs)) states values (now fronts) (now onwards) (now held) ⌝ }
+    ensures { λ r. ⌜ Stepped (turned (now (targets .entry)) (now (costs .entry))) states (choices values (mask .0)) (now (row .entry)) (now (front .entry)) (now (next .entry)) (now (onward .entry)) (now (front .exit)) (now (next .exit)) (now (onward .exit)) (r .0) × (1 ≤ now (span .exit)) × (now (span .exit) ≤ 8) × Past (turned (now (targets .entry)) (now (costs .entry))) states values (now (fronts .exit)) (now (onwards .exit)) (now (held .exit)) ⌝ }
 {
     rows::copy(states, row, next);
-    let kept = sweep(
+    let kept = keep(
+        states,
+        values,
+        targets,
+        costs,
+        Mask(mask.0),
+        front,
+        next,
+        hints,
+    );
+    *span = spread(
         states,
         values,
         targets,
         costs,
         mask,
+        place,
+        again,
+        *span,
         front,
-        next,
         onward,
-        hints,
+        fronts,
+        onwards,
+        held,
     );
     advance(states, onward, next, front);
     rows::blank(states, TOP + 1, onward);
@@ -280,16 +412,22 @@ pub fn pass(
     next: &mut [u32],
     onward: &mut [u32],
     hints: &mut [u8],
+    fronts: &mut [u32],
+    onwards: &mut [u32],
     kept: &mut [u16],
 ) -> u32
-    requires { ⌜ Sizes states values (now targets) (now costs) (now masks) (now masks) (now work) × LowRows states (length (now masks)) (now work) × (start .0 < states) × (spent ≤ top) × (length (now front) ≡ mostStates) × (length (now next) ≡ 256) × (length (now onward) ≡ 256) × (length (now hints) ≡ mostValues) × (length (now kept) ≡ length (now masks)) × Loaded (λ t. getD (now next) t 0) states (now next) ⌝ }
+    requires { ⌜ Sizes states values (now targets) (now costs) (now masks) (now masks) (now work) × LowRows states (length (now masks)) (now work) × (start .0 < states) × (spent ≤ top) × (length (now front) ≡ mostStates) × (length (now next) ≡ 256) × (length (now onward) ≡ 256) × (length (now hints) ≡ mostValues) × (length (now fronts) ≡ 512) × (length (now onwards) ≡ 512) × (length (now kept) ≡ length (now masks)) × Loaded (λ t. getD (now next) t 0) states (now next) ⌝ }
     ensures { λ r. ⌜ Tells (turned (now (targets .entry)) (now (costs .entry))) states values (start .0) spent (now (masks .entry)) (now (work .entry)) (now (kept .exit)) r ⌝ }
 {
     open_front(states, start, spent, work[start.0 as usize], front);
     rows::blank(states, TOP + 1, onward);
+    let mut held = [0u32; MOST_SPAN];
+    let mut span: usize = 1;
+    let mut last: u16 = 0;
     let mut i: usize = 0;
     while i < masks.len() {
-        let mask = Mask(masks[i]);
+        let mask = masks[i];
+        let again = mask == last;
         let at = (i + 1) * bounds::MOST_STATES;
         let end = at + bounds::MOST_STATES;
         kept[i] = step(
@@ -297,13 +435,20 @@ pub fn pass(
             values,
             targets,
             costs,
-            mask,
+            Mask(mask),
+            i,
+            again,
             &work[at..end],
+            &mut span,
             front,
             next,
             onward,
             hints,
+            fronts,
+            onwards,
+            &mut held,
         ).0;
+        last = mask;
         i += 1;
     }
     cheapest(states, front)

@@ -105,29 +105,24 @@ module _ (f : Frame) (ms ls : List ℕ) (same : length ls ≡ length ms) where
       let n : _≡_ {A = ℕ → ℕ} (λ t. getD next t 0) (λ t. capped (getD ls i 0) (room f (drop (suc i) (places ms ls)) t)) = λ j t. loaded-all (suc i) next l t j in
       rw (drop-places ms ls i same h, lt-ltb q (f .states) hq, e, n)
 
+  -- any row that is layer i, laid before the layers behind it
+  pub layers-lay : (g : ℕ → ℕ) (i : ℕ) {was work next now : List ℕ} → i < length ms → ((q : ℕ) → q < f .states → g q ≡ layer f ms ls i q)
+      → Layers f ms ls (i + 1) was × Loaded (layer f ms ls (i + 1)) (f .states) next → Laid g (f .states) i was work × Filled g (f .states) next now
+      → Layers f ms ls i work × Loaded (layer f ms ls i) (f .states) now
+  layers-lay g i {was} {work} {next} {now} h right r y =
+      (record { right = λ j q a b hq. go j q a b hq (ℕ-discrete j i) }, loaded-fill (layer f ms ls i) (r .1) (y .1) right)
+    where
+      go : (j q : ℕ) → i ≤ j → j ≤ length ms → q < f .states → Dec (j ≡ i) → getD work (j * 64 + q) 0 ≡ layer f ms ls j q
+      go j q a b hq (yes d) = rw d (y .0 .row q hq ∙ right q hq)
+      go j q a b hq (no d) = y .0 .behind (j * 64 + q) (omega arith) ∙ r .0 .right j q (omega arith) b hq
+
   pub layers-more : (i cap : ℕ) (was work next now : List ℕ) → i < length ms → cap ≡ suc (min (before ls i) top)
-      → Layers f ms ls (i + 1) was → Loaded (layer f ms ls (i + 1)) (f .states) next
+      → Layers f ms ls (i + 1) was × Loaded (layer f ms ls (i + 1)) (f .states) next
       → Laid (λ q. min cap (best (f .net) (λ t. getD next t 0) q (choices (f .values) (getD ms i 0)))) (f .states) i was work
       × Filled (λ q. min cap (best (f .net) (λ t. getD next t 0) q (choices (f .values) (getD ms i 0)))) (f .states) next now
       → Layers f ms ls i work × Loaded (layer f ms ls i) (f .states) now
-  layers-more i cap was work next now h e r l y =
-      (record { right = λ j q a b hq. go j q a b hq (ℕ-discrete j i) }, loaded-fill (layer f ms ls i) l (y .1) right)
-    where
-      right : (q : ℕ) → q < f .states → min cap (best (f .net) (λ t. getD next t 0) q (choices (f .values) (getD ms i 0))) ≡ layer f ms ls i q
-      right q hq = more-row i cap q next h e (rw add-one at l) hq
-
-      go : (j q : ℕ) → i ≤ j → j ≤ length ms → q < f .states → Dec (j ≡ i) → getD work (j * 64 + q) 0 ≡ layer f ms ls j q
-      go j q a b hq (yes d) = rw d (y .0 .row q hq ∙ right q hq)
-      go j q a b hq (no d) = y .0 .behind (j * 64 + q) (omega arith) ∙ r .right j q (omega arith) b hq
-
-  pub layers-down : (i cap : ℕ) (was work next now : List ℕ) → 0 < i → i ≤ length ms → cap ≡ suc (min (before ls (i - 1)) top)
-      → Layers f ms ls i was → Loaded (layer f ms ls i) (f .states) next
-      → Laid (λ q. min cap (best (f .net) (λ t. getD next t 0) q (choices (f .values) (getD ms (i - 1) 0)))) (f .states) (i - 1) was work
-      × Filled (λ q. min cap (best (f .net) (λ t. getD next t 0) q (choices (f .values) (getD ms (i - 1) 0)))) (f .states) next now
-      → Layers f ms ls (i - 1) work × Loaded (layer f ms ls (i - 1)) (f .states) now
-  layers-down i cap was work next now h k e r l y =
-      let d : i ≡ i - 1 + 1 = omega arith in
-      layers-more (i - 1) cap was work next now (omega arith) e (subst (λ (x : ℕ). Layers f ms ls x was) d r) (subst (λ (x : ℕ). Loaded (layer f ms ls x) (f .states) next) d l) y
+  layers-more i cap was work next now h e r y =
+      layers-lay (λ q. min cap (best (f .net) (λ t. getD next t 0) q (choices (f .values) (getD ms i 0)))) i h (λ q hq. more-row i cap q next h e (rw add-one at (r .1)) hq) r y
 
   pub layers-end : {i : ℕ} {work next : List ℕ} → i ≤ 0 → Layers f ms ls i work × Loaded (layer f ms ls i) (f .states) next
       → Layers f ms ls 0 work × Loaded (layer f ms ls 0) (f .states) next

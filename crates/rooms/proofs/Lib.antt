@@ -3,4 +3,5 @@ pub mod Filling
 pub mod Raising
 pub mod Turning
 pub mod Layering
+pub mod Falling
 pub mod Unique

@@ -6,7 +6,7 @@ use native.Mathlib.Omega.{arith}
 use native.Mathlib.Decide.{ℕ-discrete}
 use lib.ListN.{length, getD}
 use borrow.Rule.Slice.PartMut.{putMid, midOf, mid-len}
-use Rattle.meaning.specs.Bounds.{tableSize}
+use Rattle.meaning.specs.Bounds.{tableSize, workSize}
 use Rattle.meaning.specs.Meaning.{Arcs, target, cost}
 use Rattle.rooms.specs.Tables.{Filled, turned, Same, Sizes}
 use Rattle.rooms.proofs.Filling.{put-before, put-in}
@@ -52,4 +52,17 @@ ready-turned r h k = record {
   few-places = r .few-places;
   all-limits = r .all-limits;
   all-work = r .all-work;
+}
+
+-- the sizes, with rows laid in the work table
+pub ready-laid : {qs vs : ℕ} {t c ms ls work now : List ℕ} → Sizes qs vs t c ms ls work → length now ≡ workSize (length ms) → Sizes qs vs t c ms ls now
+ready-laid r h = record {
+  few-states = r .few-states;
+  few-values = r .few-values;
+  all-targets = r .all-targets;
+  all-costs = r .all-costs;
+  some-places = r .some-places;
+  few-places = r .few-places;
+  all-limits = r .all-limits;
+  all-work = h;
 }

@@ -9,6 +9,7 @@ use lib.ListN.{length, getD, drop}
 use lib.Seq.{ext-getD}
 use Rattle.meaning.specs.Bounds.{mostStates}
 use Rattle.meaning.specs.Meaning.{rulesOf, places}
+use Rattle.rules.specs.Answers.{zeros}
 use Rattle.rooms.specs.Tables.{turned, frame, Filled, capped, before, layer, Prepared}
 use Rattle.rooms.proofs.Rooms.{room-same}
 
@@ -25,6 +26,9 @@ blank-unique count number = filled-unique (λ k. number) count
 
 pub copy-unique : (count : ℕ) (from row a b : List ℕ) → length a ≡ length b → Filled (λ k. getD from k 0) count row a → Filled (λ k. getD from k 0) count row b → a ≡ b
 copy-unique count from = filled-unique (λ k. getD from k 0) count
+
+pub wipe-unique : (table a b : List ℕ) → a ≡ zeros table → b ≡ zeros table → a ≡ b
+wipe-unique table a b e f = e ∙ sym f
 
 -- the arcs and the rooms of the states and values that there are, and the whole loaded row
 pub prepare-unique : (qs vs : ℕ) (ts cs : List ℕ) (accepting : ℕ) (ms ls to fee next work to′ fee′ next′ work′ : List ℕ) → length next ≡ length next′

@@ -1,5 +1,5 @@
 -- The backward table, as functions. Inner: no entry point's contract cites this file; proofs/ shows what the table means.
-use mathlib.Core.Bool.{cond, _&&_}
+use mathlib.Core.Bool.{Bool, true, cond, _&&_}
 use mathlib.Core.List.{List, [], _∷_}
 use mathlib.Core.Path.{_≡_}
 use Prim.Native.Nat.{ℕ, zero, suc, _+_, _*_, _-_, _≤_, _<_, min, max}
@@ -84,6 +84,21 @@ pub record Laid (g : ℕ → ℕ) (n i : ℕ) (was is : List ℕ) : Type 0 where
 pub record Loaded (g : ℕ → ℕ) (n : ℕ) (next : List ℕ) : Type 0 where
   pub done : (k : ℕ) → k < n → getD next k 0 ≡ g k
   pub none : (k : ℕ) → n ≤ k → getD next k 0 ≡ 0
+
+-- a row that was found to be f below n
+pub record Matches (f : ℕ → ℕ) (n : ℕ) (row : List ℕ) (found : Bool) : Type 0 where
+  pub is : found ≡ true → (k : ℕ) → k < n → getD row k 0 ≡ f k
+
+-- a layer that is another one less a fall, if it is no greater than a fall can be: the same mask, no limit there, and the row behind it less the fall
+pub record Alike (n fall : ℕ) (ms ls : List ℕ) (i like : ℕ) (next work : List ℕ) : Type 0 where
+  pub mask : fall ≤ suc top → getD ms i 0 ≡ getD ms like 0
+  pub free : fall ≤ suc top → top ≤ before ls like
+  pub row : fall ≤ suc top → (q : ℕ) → q < n → getD next q 0 ≡ getD work ((like + 1) * mostStates + q) 0 - fall
+
+-- layer i laid before the layers behind it, whatever states accept
+pub record Lays (a : Net) (qs vs : ℕ) (ms ls : List ℕ) (i : ℕ) (next work next′ work′ : List ℕ) : Type 0 where
+  pub right : (accepting : ℕ) → Layers (frame a qs vs accepting) ms ls (i + 1) work × Loaded (layer (frame a qs vs accepting) ms ls (i + 1)) qs next
+      → Layers (frame a qs vs accepting) ms ls i work′ × Loaded (layer (frame a qs vs accepting) ms ls i) qs next′
 
 -- what the passes are lent, in its sizes
 pub record Sizes (qs vs : ℕ) (ts cs ms ls work : List ℕ) : Type 0 where

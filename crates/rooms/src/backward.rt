@@ -5,7 +5,7 @@ ghost use Prim.Native.Nat.{suc, _+_, _*_, _-_, _≤_, _<_, min, max};
 ghost use lib.ListN.{length, getD};
 ghost use Rattle.kinds.specs.Bits.{bit};
 ghost use Rattle.meaning.specs.Bounds.{mostPlaces, mostStates, mostValues, tableSize, top};
-ghost use Rattle.rooms.specs.Tables.{Filled, turned, choices, best, before, frame, layer, Layers, Laid, Loaded, Sizes, Prepared};
+ghost use Rattle.rooms.specs.Tables.{Filled, turned, choices, best, before, frame, layer, Layers, Laid, Loaded, Alike, Lays, Sizes, Prepared};
 use crate::rows;
 use crate::turn;
 use kinds::Mask;
@@ -148,6 +148,124 @@ pub(crate) fn fill_last(
     rows::copy(states, &work[at..end], next);
 }
 
+// How far apart two layers may lie of which one is laid as the other was.
+pub const MOST_SPAN: usize = 8;
+
+// A state that has room, where there is one.
+pub(crate) fn roomy(states: usize, next: &[u32]) -> usize
+    requires { ⌜ (states ≤ mostStates) × (states ≤ length (now next)) ⌝ }
+    ensures { λ r. ⌜ r < mostStates ⌝ }
+{
+    let mut q: usize = 0;
+    while q + 1 < states {
+        if next[q] != 0 {
+            return q;
+        }
+        q += 1;
+    }
+    q
+}
+
+// How much room a state with room has lost, from the row behind an earlier laid layer on.
+pub(crate) fn fall_from(states: usize, like: usize, next: &[u32], work: &[u32]) -> u32
+    requires { ⌜ (states ≤ mostStates) × (length (now next) ≡ 256) × (like < mostPlaces) × ((like + 1) * mostStates + mostStates ≤ length (now work)) ⌝ }
+{
+    let q = roomy(states, next);
+    let at = (like + 1) * bounds::MOST_STATES + q;
+    rows::less(work[at], next[q])
+}
+
+// How far layer i lies below the layer `like`, if it is that layer less a fall: one mask leads from both, and what lies behind them
+// differs by the fall alone. Else more than any fall.
+pub(crate) fn fall_to(
+    states: usize,
+    masks: &[u16],
+    limits: &[u32],
+    i: usize,
+    like: usize,
+    next: &[u32],
+    work: &[u32],
+) -> u32
+    requires { ⌜ (states ≤ mostStates) × (i < length (now masks)) × (like < length (now masks)) × (length (now masks) ≤ mostPlaces) × (length (now limits) ≡ length (now masks)) × (length (now next) ≡ 256) × ((like + 1) * mostStates + mostStates ≤ length (now work)) ⌝ }
+    ensures { λ r. ⌜ Alike states r (now (masks .entry)) (now (limits .entry)) i like (now (next .entry)) (now (work .entry)) ⌝ }
+{
+    if masks[i] != masks[like] {
+        return TOP + 2;
+    }
+    if cap_at(limits, like) <= TOP {
+        return TOP + 2;
+    }
+    let fall = fall_from(states, like, next, work);
+    let at = (like + 1) * bounds::MOST_STATES;
+    let end = at + bounds::MOST_STATES;
+    if rows::fallen(states, fall, &work[at..end], next) {
+        return fall;
+    }
+    TOP + 2
+}
+
+// The row of layer i, laid as that of the layer `like` less a fall, and loaded by itself.
+pub(crate) fn lay_like(
+    states: usize,
+    like: usize,
+    fall: u32,
+    cap: u32,
+    i: usize,
+    next: &mut [u32],
+    work: &mut [u32],
+)
+    requires { ⌜ (states ≤ mostStates) × (length (now next) ≡ 256) × (i ≤ mostPlaces) × (like ≤ mostPlaces) × (i * mostStates + mostStates ≤ length (now work)) × (like * mostStates + mostStates ≤ length (now work)) ⌝ }
+    ensures { λ _. ⌜ Laid (λ q. min cap (getD (now (work .entry)) (like * mostStates + q) 0 - fall)) states i (now (work .entry)) (now (work .exit)) × Filled (λ q. min cap (getD (now (work .entry)) (like * mostStates + q) 0 - fall)) states (now (next .entry)) (now (next .exit)) ⌝ }
+{
+    let from = like * bounds::MOST_STATES;
+    let until = from + bounds::MOST_STATES;
+    rows::copy(states, &work[from..until], next);
+    rows::lower(states, fall, cap, next);
+    let at = i * bounds::MOST_STATES;
+    let end = at + bounds::MOST_STATES;
+    rows::copy(states, next, &mut work[at..end]);
+}
+
+// Lays layer i: as the layer that lies a span behind it, if they are alike, which with equal masks they soon are; else from the next
+// row. Gives the span to try at the layer before: the same where it served, else the next one, round from 8 to 1.
+pub(crate) fn lay(
+    states: usize,
+    values: usize,
+    targets: &[u8],
+    costs: &[u16],
+    masks: &[u16],
+    limits: &[u32],
+    i: usize,
+    span: usize,
+    next: &mut [u32],
+    work: &mut [u32],
+) -> usize
+    requires { ⌜ Sizes states values (now targets) (now costs) (now masks) (now limits) (now work) × (i < length (now masks)) × (1 ≤ span) × (span ≤ 8) × (length (now next) ≡ 256) ⌝ }
+    ensures { λ r. ⌜ (1 ≤ r) × (r ≤ 8) × Lays (turned (now (targets .entry)) (now (costs .entry))) states values (now (masks .entry)) (now (limits .entry)) i (now (next .entry)) (now (work .entry)) (now (next .exit)) (now (work .exit)) ⌝ }
+{
+    let cap = cap_at(limits, i);
+    let like = i + span;
+    if like < masks.len() {
+        let fall = fall_to(states, masks, limits, i, like, next, work);
+        if fall <= TOP + 1 {
+            lay_like(states, like, fall, cap, i, next, work);
+            return span;
+        }
+    }
+    fill_layer(
+        states,
+        values,
+        targets,
+        costs,
+        Mask(masks[i]),
+        cap,
+        i,
+        next,
+        work,
+    );
+    span % MOST_SPAN + 1
+}
+
 // The rows of all layers, the last first.
 pub(crate) fn fill_rooms(
     states: usize,
@@ -165,17 +283,18 @@ pub(crate) fn fill_rooms(
 {
     let mut i = masks.len();
     fill_last(states, accepting, cap_at(limits, i), i, next, work);
+    let mut span: usize = 1;
     while 0 < i {
         i -= 1;
-        let cap = cap_at(limits, i);
-        fill_layer(
+        span = lay(
             states,
             values,
             targets,
             costs,
-            Mask(masks[i]),
-            cap,
+            masks,
+            limits,
             i,
+            span,
             next,
             work,
         );

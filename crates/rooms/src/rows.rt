@@ -1,8 +1,10 @@
 // Rows of numbers, one for each state.
 ghost use mathlib.Core.Path.{_≡_};
-ghost use Prim.Native.Nat.{_-_, _≤_, max};
+ghost use Prim.Native.Nat.{_-_, _≤_, min, max};
 ghost use lib.ListN.{length, getD};
-ghost use Rattle.rooms.specs.Tables.{Filled};
+ghost use Rattle.rules.specs.Answers.{zeros};
+ghost use Rattle.rooms.specs.Tables.{Filled, Matches};
+use rules::numbers::lesser;
 
 // The greater of two numbers.
 pub(crate) fn greater(a: u32, b: u32) -> u32
@@ -12,7 +14,7 @@ pub(crate) fn greater(a: u32, b: u32) -> u32
 }
 
 // What is left of a number; 0, where less is there than is taken.
-pub(crate) fn less(a: u32, b: u32) -> u32
+pub fn less(a: u32, b: u32) -> u32
     ensures { λ r. ⌜ r ≡ a - b ⌝ }
 {
     if a < b { 0 } else { a - b }
@@ -39,5 +41,47 @@ pub fn copy(count: usize, from: &[u32], row: &mut [u32])
     while i < count {
         row[i] = from[i];
         i += 1;
+    }
+}
+
+// Whether a row is another one, less a fall.
+pub(crate) fn fallen(count: usize, fall: u32, from: &[u32], row: &[u32]) -> bool
+    requires { ⌜ (count ≤ length (now from)) × (count ≤ length (now row)) ⌝ }
+    ensures { λ r. ⌜ Matches (λ k. getD (now (from .entry)) k 0 - fall) count (now (row .entry)) r ⌝ }
+{
+    let mut j: usize = 0;
+    while j < count {
+        if row[j] != less(from[j], fall) {
+            return false;
+        }
+        j += 1;
+    }
+    true
+}
+
+// A row less a fall, cut at the limit of the step into it.
+pub(crate) fn lower(count: usize, fall: u32, cap: u32, row: &mut [u32])
+    requires { ⌜ count ≤ length (now row) ⌝ }
+    ensures { λ _. ⌜ Filled (λ k. min cap (getD (now (row .entry)) k 0 - fall)) count (now (row .entry)) (now (row .exit)) ⌝ }
+{
+    let mut q: usize = 0;
+    while q < count {
+        row[q] = lesser(cap, less(row[q], fall));
+        q += 1;
+    }
+}
+
+// Every number of a table becomes 0, in both halves at once: as one run it is made a call that takes a turn for each byte.
+pub fn wipe(table: &mut [u32])
+    ensures { λ _. ⌜ now (table .exit) ≡ zeros (now (table .entry)) ⌝ }
+{
+    let back = table.len() / 2;
+    let count = table.len() - back;
+    let mut at: usize = 0;
+    while at < count {
+        let other = back + at;
+        table[at] = 0;
+        table[other] = 0;
+        at += 1;
     }
 }

@@ -34,15 +34,21 @@ slice-aggregate-pass-5 c = search needs
 slice-aggregate-pass-6 : tie.Need-slice-aggregate-pass-6
 slice-aggregate-pass-6 c = search needs
 
+slice-aggregate-pass-7 : tie.Need-slice-aggregate-pass-7
+slice-aggregate-pass-7 c = search needs
+
+slice-aggregate-pass-8 : tie.Need-slice-aggregate-pass-8
+slice-aggregate-pass-8 c = search needs
+
 pass-requires : tie.Need-pass-requires
-pass-requires c κs = let p = c .before .before .before .before .before .before .before .before .before .before .before .before .before .before .before .before .before .before .before .before .before .before .before .before .pre in
-    let r = c .before .before .before .before .before .before .before .before .before .before .before .before .before .prepare in
+pass-requires c κs = let p = c .before .before .before .before .before .before .before .before .before .before .before .before .before .before .before .before .before .before .before .before .before .before .before .before .before .before .pre in
+    let r = c .before .before .before .before .before .before .before .before .before .before .before .before .before .before .before .prepare in
     let k = r .kept .1 .1 .1 .1 .1 .1 .1 in
     let y = ready-prepared (r .ensures) in
-    (ready-filled (p .0) (k .0) (k .1 .0) (k .1 .1 .1 .0), y .0, p .1, p .2, refl, k .1 .1 .0, refl, refl, p .3, y .1)
+    (ready-filled (p .0) (k .0) (k .1 .0) (k .1 .1 .1 .0), y .0, p .1, p .2, refl, k .1 .1 .0, refl, refl, refl, refl, p .3, y .1)
 
-clear-requires : tie.Need-clear-requires
-clear-requires c κs = search needs
+wipe-requires : tie.Need-wipe-requires
+wipe-requires c κs = search needs
 
 same-length : tie.Need-same-length
 same-length c = search needs
@@ -51,8 +57,8 @@ same-length-2 : tie.Need-same-length-2
 same-length-2 c = search needs
 
 returns : tie.Need-returns
-returns c = let r = c .before .before .before .before .before .before .before .before .before .before .before .before .before .before .before .before .before .before .before .before .before .before .before .before .prepare in
-    filters-is (c .before .before .before .before .before .before .before .before .before .before .before .before .before .before .before .before .before .before .before .before .before .before .before .before .before .before .before .before .before .before .before .before .before .before .before .pre .0 .all-limits) (r .ensures) (c .before .before .before .before .before .before .before .before .before .before .pass .ensures) (r .kept .1 .1 .1 .1 .1 .1 .1 .1 .1 .1 .0) (c .before .before .clear .ensures)
+returns c = let r = c .before .before .before .before .before .before .before .before .before .before .before .before .before .before .before .before .before .before .before .before .before .before .before .before .before .before .before .before .prepare in
+    filters-is (c .before .before .before .before .before .before .before .before .before .before .before .before .before .before .before .before .before .before .before .before .before .before .before .before .before .before .before .before .before .before .before .before .before .before .before .before .before .before .before .pre .0 .all-limits) (r .ensures) (c .before .before .before .before .before .before .before .before .before .before .before .before .pass .ensures) (r .kept .1 .1 .1 .1 .1 .1 .1 .1 .1 .1 .0) (c .before .before .wipe .ensures)
 
 pub filter-from-spec : {M : Type 1} → statement M
 filter-from-spec =
@@ -68,8 +74,10 @@ filter-from-spec =
     slice-aggregate-pass-4
     slice-aggregate-pass-5
     slice-aggregate-pass-6
+    slice-aggregate-pass-7
+    slice-aggregate-pass-8
     pass-requires
-    clear-requires
+    wipe-requires
     same-length
     same-length-2
     returns)

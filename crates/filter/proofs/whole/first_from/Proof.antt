@@ -46,8 +46,8 @@ walk-requires c κs = let p = c .before .before .before .before .before .before 
     let o = alone-long (c .before .before .before .before .before .before .before .before .before .before .before .before .before .before .before .before .before .before .before .before .before .before .before .before .before .before .before .before .args .masks .now) (c .before .before .before .before .before .before .before .before .before .before .before .before .before .before .before .before .before .before .before .before .before .before .before .before .before .before .before .before .args .place) _ (c .before .before .before .before .before .before .before .before .before .before .before .before .before .before .before .before .before .before .before .narrow .ensures) in
     (ready-filled (ready-alone (p .0) o) (k .0) (k .1 .0) (k .1 .1 .1 .0), y .0, p .1, p .2, k .1 .1 .0, p .3 ∙ sym o, y .1)
 
-clear-requires : tie.Need-clear-requires
-clear-requires c κs = search needs
+wipe-requires : tie.Need-wipe-requires
+wipe-requires c κs = search needs
 
 same-length : tie.Need-same-length
 same-length c = search needs
@@ -58,7 +58,7 @@ same-length-2 c = search needs
 returns : tie.Need-returns
 returns c = let p = c .before .before .before .before .before .before .before .before .before .before .before .before .before .before .before .before .before .before .before .before .before .before .before .before .before .before .before .before .before .before .before .before .before .before .before .before .before .pre in
     let r = c .before .before .before .before .before .before .before .before .before .before .before .before .before .before .before .before .before .before .before .before .prepare in
-    finds-is (p .0) (p .4) (c .before .before .before .before .before .before .before .before .before .before .before .before .before .before .before .before .before .before .before .before .before .before .before .before .before .before .before .before .narrow .ensures) (r .ensures) (c .before .before .before .before .before .before .before .before .walk .ensures) (r .kept .1 .1 .1 .1 .1 .1 .1 .1 .1 .1 .0) (c .before .before .clear .ensures)
+    finds-is (p .0) (p .4) (c .before .before .before .before .before .before .before .before .before .before .before .before .before .before .before .before .before .before .before .before .before .before .before .before .before .before .before .before .narrow .ensures) (r .ensures) (c .before .before .before .before .before .before .before .before .walk .ensures) (r .kept .1 .1 .1 .1 .1 .1 .1 .1 .1 .1 .0) (c .before .before .wipe .ensures)
 
 pub first-from-spec : {M : Type 1} → statement M
 first-from-spec =
@@ -75,7 +75,7 @@ first-from-spec =
     slice-aggregate-walk-2
     slice-aggregate-walk-3
     walk-requires
-    clear-requires
+    wipe-requires
     same-length
     same-length-2
     returns)

@@ -3,24 +3,22 @@ use mathlib.Core.Path.{_≡_, refl, sym, _∙_, ap}
 use mathlib.Core.Logic.{⊎-elim}
 use lib.ListN.{length, length-take, length-drop}
 use Rattle.rooms.specs.Tables.{turned, choices}
-use Rattle.reach.specs.Looks.{LiveHeld, Swept}
-use Rattle.reach.proofs.Living.{held-none}
+use Rattle.reach.specs.Looks.{Swept}
 use Rattle.reach.proofs.Sweeping.{swept-none, swept-more, swept-skip, swept-end}
-use borrow.Author.Needs.{needs}
 use native.Mathlib.Omega.{arith}
+use borrow.Author.Needs.{needs}
 use Rattle.reach.proofs.forward.sweep.Statement.{statement}
 use Rattle.reach.proofs.forward.sweep.Tie as tie
 
 abbrev Inv-loop : tie.InvT-loop
-Inv-loop states values targets costs mask front next onward₀ hints₀ live₀ kept₀ v₀ onward hints live kept v = (v ≤ values) × (length onward ≡ length onward₀) × (length hints ≡ length hints₀)
-    × Swept (turned targets costs) states (choices v (mask .0)) front next onward₀ onward kept × LiveHeld states front live
+Inv-loop states values targets costs mask front onward₀ v₀ onward v = (v ≤ values) × (length onward ≡ length onward₀) × Swept (turned targets costs) states (choices v (mask .0)) front onward₀ onward
 
 abbrev μ-loop : tie.MeasureT-loop
-μ-loop states values targets costs mask front next onward₀ hints₀ live₀ kept₀ v₀ onward hints live kept v = values - v
+μ-loop states values targets costs mask front onward₀ v₀ onward v = values - v
 
 loop-holds : tie.Need-loop-holds Inv-loop μ-loop
-loop-holds c = let a = c .before .before .before .before .before .before .args in
-    (omega arith, refl, refl, swept-none (a .targets .now) (a .costs .now) (a .states) (a .mask .0) (a .front .now) (a .next .now) (a .onward .now), held-none _ _ _ refl)
+loop-holds c = let a = c .before .before .before .before .args in
+    (omega arith, refl, swept-none (a .targets .now) (a .costs .now) (a .states) (a .mask .0) (a .front .now) (a .onward .now))
 
 cast-loop : tie.Need-cast-loop Inv-loop μ-loop
 cast-loop c = search needs
@@ -37,30 +35,29 @@ mul-at c = search needs
 add-end : tie.Need-add-end Inv-loop μ-loop
 add-end c = search needs
 
-sub-look : tie.Need-sub-look Inv-loop μ-loop
-sub-look c = search needs
+sub-push : tie.Need-sub-push Inv-loop μ-loop
+sub-push c = search needs
 
-part-look-start : tie.Need-part-look-start Inv-loop μ-loop
-part-look-start c = search needs
+part-push-start : tie.Need-part-push-start Inv-loop μ-loop
+part-push-start c = search needs
 
-part-look-end : tie.Need-part-look-end Inv-loop μ-loop
-part-look-end c = search needs
+part-push-end : tie.Need-part-push-end Inv-loop μ-loop
+part-push-end c = search needs
 
-mul-look : tie.Need-mul-look Inv-loop μ-loop
-mul-look c = search needs
+mul-push : tie.Need-mul-push Inv-loop μ-loop
+mul-push c = search needs
 
-sub-look-2 : tie.Need-sub-look-2 Inv-loop μ-loop
-sub-look-2 c = search needs
+sub-push-2 : tie.Need-sub-push-2 Inv-loop μ-loop
+sub-push-2 c = search needs
 
-part-look-start-2 : tie.Need-part-look-start-2 Inv-loop μ-loop
-part-look-start-2 c = search needs
+part-push-start-2 : tie.Need-part-push-start-2 Inv-loop μ-loop
+part-push-start-2 c = search needs
 
-part-look-end-2 : tie.Need-part-look-end-2 Inv-loop μ-loop
-part-look-end-2 c = search needs
+part-push-end-2 : tie.Need-part-push-end-2 Inv-loop μ-loop
+part-push-end-2 c = search needs
 
-look-requires : tie.Need-look-requires Inv-loop μ-loop
-look-requires c κs = let p = c .before .before .before .before .before .before .before .before .before .before .before .before .before .before .before .pre in
-    (omega arith, simp (length-take, length-drop) (omega arith), simp (length-take, length-drop) (omega arith), omega arith, omega arith, omega arith, p .8, omega arith, c .before .before .before .before .before .before .before .before .loop .inv .4, p .9)
+push-requires : tie.Need-push-requires Inv-loop μ-loop
+push-requires c κs = (simp (length-take, length-drop) (omega arith), simp (length-take, length-drop) (omega arith), omega arith, omega arith, c .before .before .before .before .before .before .before .before .before .before .before .pre .6)
 
 add-v : tie.Need-add-v Inv-loop μ-loop
 add-v c = search needs
@@ -69,34 +66,27 @@ loop-less : tie.Need-loop-less Inv-loop μ-loop
 loop-less c = search needs
 
 loop-again : tie.Need-loop-again Inv-loop μ-loop
-loop-again c = let a = c .before .before .before .before .before .before .before .before .before .before .args in
+loop-again c = let a = c .before .before .before .before .before .before .before .before .args in
     let l = c .before .before .before .loop in
     ⊎-elim
     (λ w. (
       omega arith,
-      ap length (w .11) ∙ (w .6 .kept .1 .1 .1 .1 .1 .1 .1 .1 .0 ∙ l .inv .1),
-      ap length (w .12) ∙ (w .6 .kept .1 .1 .1 .1 .1 .1 .1 .1 .1 .0 ∙ l .inv .2),
-      swept-more (a .targets .now) (a .costs .now) (a .states) (a .mask .0) (a .front .now) (a .next .now) (l .v) (l .v * 64 + 64 - l .v * 64) (sym (c .before .has .ensures) ∙ w .0 .taken) (omega arith)
-          (l .inv .3) (w .6 .ensures .1) (w .6 .ensures .0) (w .11) (w .14),
-      rw (w .13) (w .6 .ensures .2),
+      ap length (w .7) ∙ (w .4 .kept .1 .1 .1 .1 .0 ∙ l .inv .1),
+      swept-more (a .targets .now) (a .costs .now) (a .states) (a .mask .0) (a .front .now) (l .v) (l .v * 64 + 64 - l .v * 64) (sym (c .before .has .ensures) ∙ w .0 .taken) (omega arith)
+          (l .inv .2) (w .4 .ensures) (w .7),
     ))
     (λ w. (
       omega arith,
       ap length (w .1) ∙ l .inv .1,
-      ap length (w .2) ∙ l .inv .2,
-      swept-skip (a .targets .now) (a .costs .now) (a .states) (a .mask .0) (a .front .now) (a .next .now) (l .v) (sym (c .before .has .ensures) ∙ w .0 .left) (l .inv .3) (w .1) (w .4),
-      rw (w .3) (l .inv .4),
+      swept-skip (a .targets .now) (a .costs .now) (a .states) (a .mask .0) (a .front .now) (l .v) (sym (c .before .has .ensures) ∙ w .0 .left) (l .inv .2) (w .1),
     ))
     (c .if1 .came)
 
 same-length : tie.Need-same-length Inv-loop μ-loop
 same-length c = c .before .loop .inv .1
 
-same-length-2 : tie.Need-same-length-2 Inv-loop μ-loop
-same-length-2 c = c .before .loop .inv .2
-
 returns : tie.Need-returns Inv-loop μ-loop
-returns c = swept-end _ _ _ _ _ _ (c .before .loop .inv .0) (c .loop-test .left) (c .before .loop .inv .3)
+returns c = swept-end _ _ _ _ _ (c .before .loop .inv .0) (c .loop-test .left) (c .before .loop .inv .2)
 
 pub sweep-spec : {M : Type 1} → statement M
 sweep-spec =
@@ -110,17 +100,16 @@ sweep-spec =
     cast-at
     mul-at
     add-end
-    sub-look
-    part-look-start
-    part-look-end
-    mul-look
-    sub-look-2
-    part-look-start-2
-    part-look-end-2
-    look-requires
+    sub-push
+    part-push-start
+    part-push-end
+    mul-push
+    sub-push-2
+    part-push-start-2
+    part-push-end-2
+    push-requires
     add-v
     loop-less
     loop-again
     same-length
-    same-length-2
     returns)
