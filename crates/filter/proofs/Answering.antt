@@ -15,7 +15,8 @@ use Rattle.rules.proofs.Checks.{both, and-fails, and-goes, size-of, sizes-of, l
 use Rattle.filter.specs.Filter.{left, lengthsRight, passChecks, filterDone, filterOf}
 use Rattle.filter.specs.First.{Given, given, firstDone, firstOf}
 use Rattle.rooms.specs.Tables.{Sizes}
-use Rattle.filter.specs.Inner.{Filters, Answered, some, none, Finds}
+use Rattle.reach.specs.Whole.{Filters, Finds}
+use Rattle.filter.specs.Inner.{Answered, some, none}
 
 -- the lengths, one by one
 pub record Lengths (n ms ls out work : ℕ) : Type 0 where

@@ -1,5 +1,3 @@
-pub mod Both
 pub mod Answering
-pub mod Narrowing
 pub mod Unique
 pub mod Alike

@@ -5,9 +5,7 @@ ghost use Rattle.rules.specs.Answers.{numberOf};
 ghost use Rattle.filter.specs.Filter.{left, filterOf};
 ghost use Rattle.filter.specs.First.{given, firstOf};
 
-mod alone;
 mod answers;
-mod whole;
 
 use kinds::Value;
 use rules::Answer;
@@ -52,7 +50,7 @@ pub fn filter(
         return answers::refused(Answer::WrongMask);
     }
     let start = size.start;
-    let least = whole::filter_from(
+    let least = reach::whole::filter_from(
         size.states,
         size.values,
         targets,
@@ -106,7 +104,7 @@ pub fn first_roster(
         return Answer::OutOfRange;
     }
     let start = size.start;
-    if !whole::first_from(
+    if !reach::whole::first_from(
         size.states,
         size.values,
         targets,

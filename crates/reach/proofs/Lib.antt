@@ -7,4 +7,6 @@ pub mod Living
 pub mod Passing
 pub mod Firsts
 pub mod Walking
+pub mod Both
+pub mod Narrowing
 pub mod Unique

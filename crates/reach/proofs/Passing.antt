@@ -23,6 +23,7 @@ use Rattle.rooms.specs.Tables.{Filled, choices, Net, frame, layer, room, capped
 use Rattle.reach.specs.Looks.{looks, lands, reach, marks, struck, lowest, Low, LowRows, Keeps, Spread, Blank, Opened, Stepped, Meant, Tells}
 use Rattle.rooms.proofs.Rooms.{choice-in}
 use Rattle.reach.proofs.Reach.{looks-in}
+use Rattle.reach.proofs.Sweeping.{lowest-most}
 use Rattle.rooms.proofs.Layering.{drop-places, copied-row, row-copied}
 use Rattle.reach.proofs.Front.{Front, front-opens, kept-is, front-goes}
 use Rattle.reach.proofs.Verdicts.{verdict-some, verdict-none}
@@ -106,7 +107,7 @@ module _ (a : Net) (qs vs spent : ℕ) (ms work first : List ℕ) (hs : spent �
       rw d at e
 
   pub passing-opens : (start : ℕ) (next onward was out : List ℕ) → start < qs → Opened qs start spent (getD work start 0) first
-      → Filled (λ k. 366001) qs was onward → Loaded (λ t. getD next t 0) qs next → Passing a qs vs spent ms work first first next onward out 0
+      → Filled (λ k. 366001) qs was onward → Loaded (λ t. 0) qs next → Passing a qs vs spent ms work first first next onward out 0
   passing-opens start next onward was out h o f l = record {
     low = opened-low start (getD work start 0) o;
     blank = λ t k. f .done t k ∙ top-next;
@@ -191,6 +192,7 @@ module _ (a : Net) (qs vs spent : ℕ) (ms work first : List ℕ) (hs : spent �
   pub passing-ends : (start i l : ℕ) (front next onward out : List ℕ) → start < qs → Opened qs start spent (getD work start 0) first → i ≤ length ms → length ms ≤ i
       → length out ≡ length ms → Passing a qs vs spent ms work first front next onward out i → l ≡ lowest front qs → Tells a qs vs start spent ms work out l
   passing-ends start i l front next onward out h o hi hj ho p e = record {
+    most = rw e (lowest-most front qs);
     some = λ t c ls accepting m k. verdict-some (rulesOf qs vs t c accepting) a (m .arcs) start spent (places ms ls) front (ends t c ls accepting m) out l (masks t c ls accepting m) e k;
     none = λ t c ls accepting m k. verdict-none (rulesOf qs vs t c accepting) a (m .arcs) start spent (places ms ls) front (ends t c ls accepting m) out l (masks t c ls accepting m) e k;
   }

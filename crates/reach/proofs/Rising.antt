@@ -5,16 +5,15 @@ use mathlib.Core.List.{List, [], _∷_}
 use mathlib.Core.List.{List·Memᴰ as In, List·Memᴰ·head as head, List·Memᴰ·tail as tail}
 use Prim.Native.Nat.{ℕ, suc, _+_, _*_, _-_, _≤_, _<_, min}
 use native.Mathlib.Omega.{arith}
-use native.Mathlib.Decide.{ℕ-discrete, decLt}
+use native.Mathlib.Decide.{ℕ-discrete}
 use lib.Dec.{eqb}
 use lib.ListN.{length, getD, set, take, drop, replicate, getD-replicate}
 use lib.Seq.{getD-set-same, getD-set-other}
-use borrow.Rule.Slice.PartMut.{putMid, midOf}
+use borrow.Rule.Slice.PartMut.{putMid, midOf, mid-len}
 use Rattle.meaning.specs.Bounds.{top}
-use Rattle.rooms.specs.Tables.{Net, choices, Filled, Matches}
-use Rattle.rooms.proofs.Filling.{row-part, put-before, put-in, put-behind}
-use Rattle.rooms.proofs.Turning.{part-long}
-use Rattle.reach.specs.Looks.{Look, looks, spends, leads, reach, Low, Swept, Spread, Blank, Lows, Known, Slotted, Past}
+use Rattle.rooms.specs.Tables.{Net, choices, copied, Filled, Matches, Laid}
+use Rattle.rooms.proofs.Filling.{row-part, copied-filled, laid-put}
+use Rattle.reach.specs.Looks.{Look, looks, spends, leads, reach, Low, Swept, Spread, Blank, Lows, Known, Past}
 use Rattle.reach.proofs.Reach.{looks-in}
 
 -- least costs rise as much as the front does
@@ -64,16 +63,11 @@ pub slot-low : {n slot : ℕ} {fronts held : List ℕ} → n ≤ 64 → slot < 8
 slot-low {n} {slot} {fronts} {held} h l z w = record { low = λ k m. rw (row-part fronts slot (slot * 64 + 64 - slot * 64) k (omega arith)) (w .low slot k l z m) }
 
 -- a row noted in a slot
-pub slotted-is : (n slot : ℕ) (row was mid ys : List ℕ) → n ≤ 64 → slot * 64 + 64 ≤ length was → length ys ≡ length (midOf (slot * 64) (slot * 64 + 64 - slot * 64) was)
-    → Filled (λ k. getD row k 0) n mid ys → Slotted n slot row was (putMid (slot * 64) (slot * 64 + 64 - slot * 64) was ys)
-slotted-is n slot row was mid ys h l e f = record { there = there; others = λ s k d m. others s k m (decLt s slot) d }
-  where
-    there : (k : ℕ) → k < n → getD (putMid (slot * 64) (slot * 64 + 64 - slot * 64) was ys) (slot * 64 + k) 0 ≡ getD row k 0
-    there k m = put-in (slot * 64) (slot * 64 + 64 - slot * 64) was ys (omega arith) k (omega (arith, part-long slot was ys l e)) ∙ f .done k m
-
-    others : (s k : ℕ) → k < 64 → Dec (s < slot) → (s ≡ slot → ⊥) → getD (putMid (slot * 64) (slot * 64 + 64 - slot * 64) was ys) (s * 64 + k) 0 ≡ getD was (s * 64 + k) 0
-    others s k m (yes b) d = put-before (slot * 64) (slot * 64 + 64 - slot * 64) was ys (omega arith) (s * 64 + k) (omega arith)
-    others s k m (no b) d = put-behind (slot * 64) (slot * 64 + 64) was ys (omega arith) l (part-long slot was ys l e ∙ omega arith) (s * 64 + k) (omega arith)
+pub laid-copy : {n : ℕ} (slot : ℕ) (row was : List ℕ) {ys : List ℕ} → n ≤ 64 → n ≤ length row → slot * 64 + 64 ≤ length was
+    → length ys ≡ length (midOf (slot * 64) (slot * 64 + 64 - slot * 64) was) → ys ≡ copied n row (midOf (slot * 64) (slot * 64 + 64 - slot * 64) was)
+    → Laid (λ k. getD row k 0) n slot was (putMid (slot * 64) (slot * 64 + 64 - slot * 64) was ys)
+laid-copy {n} slot row was {ys} h m l e d =
+    laid-put slot (slot * 64) was ys h refl l e (copied-filled n row m (omega (arith, mid-len (slot * 64) (slot * 64 + 64) was l)) d)
 
 module _ (a : Net) (qs vs : ℕ) where
   pub past-none : (fronts onwards : List ℕ) → Past a qs vs fronts onwards (replicate 8 0)
@@ -106,7 +100,7 @@ module _ (a : Net) (qs vs : ℕ) where
 
   -- and noted
   pub past-noted : (slot m : ℕ) (front onward fronts onwards held fronts′ onwards′ held′ : List ℕ) → qs ≤ 64 → slot < length held → Low qs front
-      → Past a qs vs fronts onwards held → Spread a qs (choices vs m) front onward → Slotted qs slot front fronts fronts′ → Slotted qs slot onward onwards onwards′
+      → Past a qs vs fronts onwards held → Spread a qs (choices vs m) front onward → Laid (λ k. getD front k 0) qs slot fronts fronts′ → Laid (λ k. getD onward k 0) qs slot onwards onwards′
       → held′ ≡ set held slot m → Past a qs vs fronts′ onwards′ held′
   past-noted slot m front onward fronts onwards held fronts′ onwards′ held′ h64 hl low p s x y e = record { lows = record { low = λ s k h z l. lows s k h z l (ℕ-discrete s slot) }; right = λ s t h z l. right s t h z l (ℕ-discrete s slot) }
     where
@@ -117,13 +111,13 @@ module _ (a : Net) (qs vs : ℕ) where
       other s d = rw e (getD-set-other held slot s m 0 d)
 
       lows : (s k : ℕ) → s < 8 → 0 < getD held′ s 0 → k < qs → Dec (s ≡ slot) → getD fronts′ (s * 64 + k) 0 ≤ suc top
-      lows s k h z l (yes d) = rw (d, x .there k l) (low .low k l)
-      lows s k h z l (no d) = rw (x .others s k d (omega arith)) (p .lows .low s k h (rw (other s d) at z) l)
+      lows s k h z l (yes d) = rw (d, x .row k l) (low .low k l)
+      lows s k h z l (no d) = rw (x .others s k (omega arith) (λ q r. d q)) (p .lows .low s k h (rw (other s d) at z) l)
 
       right : (s t : ℕ) → s < 8 → 0 < getD held′ s 0 → t < qs → Dec (s ≡ slot)
           → getD onwards′ (s * 64 + t) 0 ≡ reach a (λ q. getD fronts′ (s * 64 + q) 0) (suc top) t (looks qs (choices vs (getD held′ s 0)))
-      right u t h z l (yes d) = rw (d, same) (y .there t l ∙ (s .right t l
-          ∙ sym (reach-same a (λ q. getD front q 0) (λ q. getD fronts′ (slot * 64 + q) 0) (suc top) t (looks qs (choices vs m)) (λ w i. x .there (w .state) (looks-in qs (choices vs m) i .0)))))
-      right u t h z l (no d) = rw (other u d) (y .others u t d (omega arith) ∙ (p .right u t h (rw (other u d) at z) l
+      right u t h z l (yes d) = rw (d, same) (y .row t l ∙ (s .right t l
+          ∙ sym (reach-same a (λ q. getD front q 0) (λ q. getD fronts′ (slot * 64 + q) 0) (suc top) t (looks qs (choices vs m)) (λ w i. x .row (w .state) (looks-in qs (choices vs m) i .0)))))
+      right u t h z l (no d) = rw (other u d) (y .others u t (omega arith) (λ q r. d q) ∙ (p .right u t h (rw (other u d) at z) l
           ∙ sym (reach-same a (λ q. getD fronts (u * 64 + q) 0) (λ q. getD fronts′ (u * 64 + q) 0) (suc top) t (looks qs (choices vs (getD held u 0)))
-          (λ w i. x .others u (w .state) d (omega (arith, looks-in qs (choices vs (getD held u 0)) i .0))))))
+          (λ w i. x .others u (w .state) (omega (arith, looks-in qs (choices vs (getD held u 0)) i .0)) (λ q r. d q)))))

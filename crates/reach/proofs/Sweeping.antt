@@ -17,7 +17,7 @@ use Rattle.meaning.proofs.Lists.{in-any}
 use Rattle.rooms.specs.Tables.{down, choices, turned}
 use Rattle.reach.specs.Looks.{along, looks, reach, marks, arrive, joins, struck, lowest, Pushed, Swept, Keeps}
 use Rattle.rooms.proofs.Rooms.{in-down}
-use Rattle.rooms.proofs.Filling.{row-part}
+use Rattle.rooms.proofs.Filling.{part-at}
 use Rattle.rooms.proofs.Raising.{choices-none, choices-more, choices-skip}
 use Rattle.reach.proofs.Reach.{reach-join, marks-join}
 
@@ -54,6 +54,11 @@ pub lowest-more : (row : List ℕ) (q x z : ℕ) → x ≡ lowest row q → z �
 unfolding lowest
 lowest-more row q x z e f = rw (f, e, add-one)
 
+pub lowest-most : (row : List ℕ) (q : ℕ) → lowest row q ≤ suc top
+unfolding lowest
+lowest-most row zero = omega arith
+lowest-most row (suc q) = omega (arith, lowest-most row q)
+
 -- a mask with a value more, or as it is
 pub marked-yes : (m v : ℕ) (r : ℕ) (on : Bool) → on ≡ true → r ≡ maskOf (λ u. bit m u || eqb u v) width → r ≡ maskOf (λ u. bit m u || (on && eqb u v)) width
 marked-yes m v r on e h = rw e h
@@ -62,19 +67,19 @@ pub marked-no : (m v : ℕ) (on : Bool) → m < 2 ^ width → on ≡ false → m
 marked-no m v on h e = mask-is (λ u. bit m u || (on && eqb u v)) width m h (λ u l. sym (rw e (or-false (bit m u))))
 
 -- a row of the turned tables, as the looks along a value see it
-module _ (ts cs : List ℕ) (v k : ℕ) (front : List ℕ) where
+module _ (ts cs : List ℕ) (v at k : ℕ) (e : at ≡ v * 64) (front : List ℕ) where
   arrive-is : (most t n : ℕ) → n ≤ k
-      → arrive (take k (drop (v * 64) ts)) (take k (drop (v * 64) cs)) front most t n ≡ reach (turned ts cs) (λ q. getD front q 0) most t (along n v)
+      → arrive (take k (drop at ts)) (take k (drop at cs)) front most t n ≡ reach (turned ts cs) (λ q. getD front q 0) most t (along n v)
   unfolding arrive reach turned down
   arrive-is most t zero h = refl
-  arrive-is most t (suc n) h = rw (arrive-is most t n (omega arith), row-part ts v k n (omega arith), row-part cs v k n (omega arith))
+  arrive-is most t (suc n) h = rw (arrive-is most t n (omega arith), part-at ts at v k n e (omega arith), part-at cs at v k n e (omega arith))
 
   joins-is : (next : List ℕ) (u n : ℕ) → n ≤ k
-      → (joins (take k (drop (v * 64) ts)) (take k (drop (v * 64) cs)) front next n && eqb u v) ≡ marks (turned ts cs) (λ t. getD next t 0) (λ q. getD front q 0) u (along n v)
+      → (joins (take k (drop at ts)) (take k (drop at cs)) front next n && eqb u v) ≡ marks (turned ts cs) (λ t. getD next t 0) (λ q. getD front q 0) u (along n v)
   unfolding joins marks turned down
   joins-is next u zero h = refl
   joins-is next u (suc n) h =
-      rw (row-part ts v k n (omega arith), row-part cs v k n (omega arith), ← joins-is next u n (omega arith))
+      rw (part-at ts at v k n e (omega arith), part-at cs at v k n e (omega arith), ← joins-is next u n (omega arith))
       (spread (ltb (getD front n 0 + getD cs (v * 64 + n) 0) (getD next (getD ts (v * 64 + n) 0) 0)) _ (eqb u v))
     where
       spread : (a b d : Bool) → ((a || b) && d) ≡ ((a && d) || (b && d))
@@ -90,12 +95,12 @@ module _ (ts cs : List ℕ) (qs m : ℕ) (front : List ℕ) where
   unfolding reach
   swept-none was = record { costs = λ t. rw choices-none }
 
-  pub swept-more : (v k : ℕ) {was mid is : List ℕ} → bit m v ≡ true → qs ≤ k → Swept (turned ts cs) qs (choices v m) front was mid
-      → Pushed (take k (drop (v * 64) ts)) (take k (drop (v * 64) cs)) front qs mid is
+  pub swept-more : (v at k : ℕ) {was mid is : List ℕ} → bit m v ≡ true → at ≡ v * 64 → qs ≤ k → Swept (turned ts cs) qs (choices v m) front was mid
+      → Pushed (take k (drop at ts)) (take k (drop at cs)) front qs mid is
       → {out : List ℕ} → out ≡ is → Swept (turned ts cs) qs (choices (v + 1) m) front was out
-  swept-more v k {was} {mid} {is} e h s p {out} d =
+  swept-more v at k {was} {mid} {is} e r h s p {out} d =
       rw d (record {
-        costs = λ t. rw (choices-more v m e) (p .right t ∙ (arrive-is ts cs v k front (getD mid t 0) t qs h
+        costs = λ t. rw (choices-more v m e) (p .right t ∙ (arrive-is ts cs v at k r front (getD mid t 0) t qs h
             ∙ (ap (λ (b : ℕ). reach (turned ts cs) (λ q. getD front q 0) b t (along qs v)) (s .costs t)
             ∙ sym (reach-join (turned ts cs) (λ q. getD front q 0) (getD was t 0) t (along qs v) (looks qs (choices v m))))));
       })
@@ -113,15 +118,15 @@ module _ (ts cs : List ℕ) (qs m : ℕ) (front next : List ℕ) where
   unfolding marks
   keeps-none = record { values = λ v h. rw choices-none (bit-none v); small = omega arith }
 
-  pub keeps-more : (v k : ℕ) {x y : ℕ} → bit m v ≡ true → qs ≤ k → Keeps (turned ts cs) qs (choices v m) front next x
-      → y ≡ maskOf (λ u. bit x u || (joins (take k (drop (v * 64) ts)) (take k (drop (v * 64) cs)) front next qs && eqb u v)) width
+  pub keeps-more : (v at k : ℕ) {x y : ℕ} → bit m v ≡ true → at ≡ v * 64 → qs ≤ k → Keeps (turned ts cs) qs (choices v m) front next x
+      → y ≡ maskOf (λ u. bit x u || (joins (take k (drop at ts)) (take k (drop at cs)) front next qs && eqb u v)) width
       → {z : ℕ} → z ≡ y → Keeps (turned ts cs) qs (choices (v + 1) m) front next z
-  keeps-more v k {x} {y} e h s z f =
-      let on : Bool = joins (take k (drop (v * 64) ts)) (take k (drop (v * 64) cs)) front next qs in
+  keeps-more v at k {x} {y} e r h s z f =
+      let on : Bool = joins (take k (drop at ts)) (take k (drop at cs)) front next qs in
       rw f (record {
         values = λ u l. rw (choices-more v m e) (ap (λ (n : ℕ). bit n u) z ∙ (bit-mask (λ u. bit x u || (on && eqb u v)) width u l
             ∙ (or-comm (bit x u) _
-            ∙ (rw (joins-is ts cs v k front next u qs h, s .values u l)
+            ∙ (rw (joins-is ts cs v at k r front next u qs h, s .values u l)
             (sym (marks-join (turned ts cs) (λ t. getD next t 0) (λ q. getD front q 0) u (along qs v) (looks qs (choices v m))))))));
         small = rw z (mask-lt (λ u. bit x u || (on && eqb u v)) width);
       })

@@ -65,7 +65,7 @@ pub record Walking (a : Net) (qs vs start spent : ℕ) (ms work was is next : Li
       → take 1 (rosters (rulesOf qs vs t c accepting) start spent (places ms ls)) ≡ map (λ w. take i is ++ w) (take 1 (rosters (rulesOf qs vs t c accepting) q s (drop i (places ms ls))))
 
 module _ (a : Net) (qs vs start spent : ℕ) (ms work was : List ℕ) where
-  pub walking-starts : (next : List ℕ) → start < qs → spent ≤ top → Loaded (λ t. getD next t 0) qs next → Walking a qs vs start spent ms work was was next start spent 0
+  pub walking-starts : (next : List ℕ) → start < qs → spent ≤ top → Loaded (λ t. 0) qs next → Walking a qs vs start spent ms work was was next start spent 0
   walking-starts next h k l = record {
     state = h;
     low = k;
@@ -174,10 +174,10 @@ module _ (a : Net) (qs vs start spent : ℕ) (ms work was : List ℕ) where
           rw (ends (rulesOf qs vs t c accepting) q s (drop i (places ms ls)) d y, f)
 
 -- the turned tables, read
-pub turned-to : (ts cs : List ℕ) (q v : ℕ) → getD ts (v * 64 + q) 0 ≡ turned ts cs .to q v
+pub turned-to : (ts cs : List ℕ) (q v : ℕ) {at : ℕ} → at ≡ v * 64 + q → getD ts at 0 ≡ turned ts cs .to q v
 unfolding turned
-turned-to ts cs q v = refl
+turned-to ts cs q v e = rw e
 
-pub turned-fee : (ts cs : List ℕ) (q s v : ℕ) → s + getD cs (v * 64 + q) 0 ≡ s + turned ts cs .fee q v
+pub turned-fee : (ts cs : List ℕ) (q s v : ℕ) {at : ℕ} → at ≡ v * 64 + q → s + getD cs at 0 ≡ s + turned ts cs .fee q v
 unfolding turned
-turned-fee ts cs q s v = refl
+turned-fee ts cs q s v e = rw e

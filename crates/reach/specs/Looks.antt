@@ -118,11 +118,6 @@ pub record Known (n mask slot rise : ℕ) (front fronts held : List ℕ) : Type 
   pub same : rise ≤ suc top → getD held slot 0 ≡ mask
   pub row : rise ≤ suc top → (k : ℕ) → k < n → getD front k 0 ≡ min (suc top) (getD fronts (slot * mostStates + k) 0 + rise)
 
--- a row noted in a slot, the other slots being as they were
-pub record Slotted (n slot : ℕ) (row was is : List ℕ) : Type 0 where
-  pub there : (k : ℕ) → k < n → getD is (slot * mostStates + k) 0 ≡ getD row k 0
-  pub others : (s k : ℕ) → (s ≡ slot → ⊥) → k < mostStates → getD is (s * mostStates + k) 0 ≡ getD was (s * mostStates + k) 0
-
 -- the slots that are not empty have a front, a mask and the least costs of its looks
 pub record Past (a : Net) (qs vs : ℕ) (fronts onwards held : List ℕ) : Type 0 where
   pub lows : Lows qs fronts held
@@ -143,8 +138,9 @@ pub record Meant (a : Net) (qs vs : ℕ) (ms work t c ls : List ℕ) (accepting 
   pub arcs : Same (arcsOf qs vs t c) vs a
   pub rooms : Layers (frame a qs vs accepting) ms ls 0 work
 
--- the masks and the least cost that the forward pass gives, as the list of rosters tells them
+-- the masks and the least cost that the forward pass gives, as the list of rosters tells them; one more than the top where there is none
 pub record Tells (a : Net) (qs vs start spent : ℕ) (ms work out : List ℕ) (least : ℕ) : Type 0 where
+  pub most : least ≤ suc top
   pub some : (t c ls : List ℕ) (accepting : ℕ) → Meant a qs vs ms work t c ls accepting → least ≤ top
       → verdict 0 out least ≡ verdictOf (rulesOf qs vs t c accepting) start spent (places ms ls)
   pub none : (t c ls : List ℕ) (accepting : ℕ) → Meant a qs vs ms work t c ls accepting → top < least

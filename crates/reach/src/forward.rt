@@ -12,14 +12,16 @@ use crate::past;
 use kinds::Mask;
 use kinds::State;
 use kinds::Value;
+use rooms::backward::BYTES;
 use rooms::backward::MOST_SPAN;
 use rooms::rows;
+use rooms::turn::turned_at;
 use rules::bounds;
 use rules::bounds::TOP;
 use rules::numbers::lesser;
 
 // As many numbers as the slots of the past hold, a row each.
-pub const PAST: usize = 512;
+pub(crate) const PAST: usize = 512;
 
 // The live states of a front, state q being bit q: those that it has a cost at. The bit is carried along, so that the loop stays a
 // plain one: as 1 << q it was made a vector loop, whose constants every place had to load.
@@ -29,28 +31,29 @@ pub(crate) fn living(states: usize, front: &[u32]) -> u64
 {
     let mut live: u64 = 0;
     let mut bit: u64 = 1;
-    let mut q: usize = 0;
-    while q < states {
-        if front[q] <= TOP {
+    let mut q = State(0);
+    while (q.0 as usize) < states {
+        if front[q.0 as usize] <= TOP {
             live = live | bit;
         }
         bit = bit << 1;
-        q += 1;
+        q = State(q.0 + 1);
     }
     live
 }
 
 // The least costs, lowered by the arcs on one value.
 pub(crate) fn push(states: usize, targets: &[u8], costs: &[u16], front: &[u32], onward: &mut [u32])
-    requires { ⌜ (states ≤ length (now targets)) × (states ≤ length (now costs)) × (states ≤ length (now front)) × (length (now onward) ≡ 256) × Low states (now front) ⌝ }
+    requires { ⌜ (states ≤ mostStates) × (states ≤ length (now targets)) × (states ≤ length (now costs)) × (states ≤ length (now front)) × (length (now onward) ≡ 256) × Low states (now front) ⌝ }
     ensures { λ _. ⌜ Pushed (now (targets .entry)) (now (costs .entry)) (now (front .entry)) states (now (onward .entry)) (now (onward .exit)) ⌝ }
 {
-    let mut q: usize = 0;
-    while q < states {
-        let to = targets[q] as usize;
-        let spent = front[q] + (costs[q] as u32);
+    let mut q = State(0);
+    while (q.0 as usize) < states {
+        let at = q.0 as usize;
+        let to = targets[at] as usize;
+        let spent = front[at] + (costs[at] as u32);
         onward[to] = lesser(spent, onward[to]);
-        q += 1;
+        q = State(q.0 + 1);
     }
 }
 
@@ -91,9 +94,9 @@ pub(crate) fn support(
 {
     let mut left = live;
     while left != 0 {
-        let q = u64::trailing_zeros(left) as u8;
-        if joins_at(targets, costs, front, next, State(q)) {
-            return State(q);
+        let q = State(u64::trailing_zeros(left) as u8);
+        if joins_at(targets, costs, front, next, State(q.0)) {
+            return q;
         }
         left = left & (left - 1);
     }
@@ -144,26 +147,27 @@ pub(crate) fn strike(cost: u32, room: u32) -> u32
 
 // The front one place on.
 pub(crate) fn advance(states: usize, onward: &[u32], next: &[u32], front: &mut [u32])
-    requires { ⌜ (states ≤ length (now onward)) × (states ≤ length (now next)) × (states ≤ length (now front)) ⌝ }
+    requires { ⌜ (states ≤ mostStates) × (states ≤ length (now onward)) × (states ≤ length (now next)) × (states ≤ length (now front)) ⌝ }
     ensures { λ _. ⌜ Filled (λ q. struck (getD (now (onward .entry)) q 0) (getD (now (next .entry)) q 0)) states (now (front .entry)) (now (front .exit)) ⌝ }
 {
-    let mut q: usize = 0;
-    while q < states {
-        front[q] = strike(onward[q], next[q]);
-        q += 1;
+    let mut q = State(0);
+    while (q.0 as usize) < states {
+        let at = q.0 as usize;
+        front[at] = strike(onward[at], next[at]);
+        q = State(q.0 + 1);
     }
 }
 
 // The least cost of a front.
 pub(crate) fn cheapest(states: usize, front: &[u32]) -> u32
-    requires { ⌜ states ≤ length (now front) ⌝ }
+    requires { ⌜ (states ≤ mostStates) × (states ≤ length (now front)) ⌝ }
     ensures { λ r. ⌜ r ≡ lowest (now (front .entry)) states ⌝ }
 {
     let mut least = TOP + 1;
-    let mut q: usize = 0;
-    while q < states {
-        least = lesser(front[q], least);
-        q += 1;
+    let mut q = State(0);
+    while (q.0 as usize) < states {
+        least = lesser(front[q.0 as usize], least);
+        q = State(q.0 + 1);
     }
     least
 }
@@ -202,11 +206,11 @@ pub(crate) fn keep(
     ensures { λ r. ⌜ Keeps (turned (now (targets .entry)) (now (costs .entry))) states (choices values (mask .0)) (now (front .entry)) (now (next .entry)) (r .0) ⌝ }
 {
     let mut live: u64 = 0;
-    let mut kept: u16 = 0;
-    let mut v: u8 = 0;
-    while (v as usize) < values {
-        if mask.has(Value(v)) {
-            let at = (v as usize) * bounds::MOST_STATES;
+    let mut kept = Mask::EMPTY;
+    let mut v = Value(0);
+    while (v.0 as usize) < values {
+        if mask.has(Value(v.0)) {
+            let at = turned_at(State(0), Value(v.0));
             let end = at + bounds::MOST_STATES;
             kept = look(
                 states,
@@ -215,14 +219,14 @@ pub(crate) fn keep(
                 front,
                 &mut live,
                 next,
-                Value(v),
-                Mask(kept),
+                Value(v.0),
+                kept,
                 hints,
-            ).0;
+            );
         }
-        v += 1;
+        v = Value(v.0 + 1);
     }
-    Mask(kept)
+    kept
 }
 
 // The least costs one place on, lowered by the arcs on the values of a mask.
@@ -238,14 +242,14 @@ pub(crate) fn sweep(
     requires { ⌜ (states ≤ mostStates) × (values ≤ mostValues) × (length (now targets) ≡ tableSize) × (length (now costs) ≡ tableSize) × (states ≤ length (now front)) × (length (now onward) ≡ 256) × Low states (now front) ⌝ }
     ensures { λ _. ⌜ Swept (turned (now (targets .entry)) (now (costs .entry))) states (choices values (mask .0)) (now (front .entry)) (now (onward .entry)) (now (onward .exit)) ⌝ }
 {
-    let mut v: u8 = 0;
-    while (v as usize) < values {
-        if mask.has(Value(v)) {
-            let at = (v as usize) * bounds::MOST_STATES;
+    let mut v = Value(0);
+    while (v.0 as usize) < values {
+        if mask.has(Value(v.0)) {
+            let at = turned_at(State(0), Value(v.0));
             let end = at + bounds::MOST_STATES;
             push(states, &targets[at..end], &costs[at..end], front, onward);
         }
-        v += 1;
+        v = Value(v.0 + 1);
     }
 }
 
@@ -261,7 +265,7 @@ pub(crate) fn gather(
     front: &[u32],
     fronts: &[u32],
     onwards: &[u32],
-    held: &[u32],
+    held: &[u16],
     onward: &mut [u32],
 ) -> bool
     requires { ⌜ (1 ≤ states) × (states ≤ mostStates) × (values ≤ mostValues) × (length (now targets) ≡ tableSize) × (length (now costs) ≡ tableSize) × (slot < 8) × (states ≤ length (now front)) × (length (now fronts) ≡ 512) × (length (now onwards) ≡ 512) × (length (now held) ≡ 8) × (length (now onward) ≡ 256) × Low states (now front) × Blank states (now onward) × Past (turned (now targets) (now costs)) states values (now fronts) (now onwards) (now held) ⌝ }
@@ -308,7 +312,7 @@ pub(crate) fn spread(
     onward: &mut [u32],
     fronts: &mut [u32],
     onwards: &mut [u32],
-    held: &mut [u32],
+    held: &mut [u16],
 ) -> usize
     requires { ⌜ (1 ≤ states) × (states ≤ mostStates) × (values ≤ mostValues) × (length (now targets) ≡ tableSize) × (length (now costs) ≡ tableSize) × (place ≤ mostPlaces) × (1 ≤ span) × (span ≤ 8) × (states ≤ length (now front)) × (length (now onward) ≡ 256) × (length (now fronts) ≡ 512) × (length (now onwards) ≡ 512) × (length (now held) ≡ 8) × Low states (now front) × Blank states (now onward) × Past (turned (now targets) (now costs)) states values (now fronts) (now onwards) (now held) ⌝ }
     ensures { λ r. ⌜ (1 ≤ r) × (r ≤ 8) × Spread (turned (now (targets .entry)) (now (costs .entry))) states (choices values (mask .0)) (now (front .entry)) (now (onward .exit)) × Past (turned (now (targets .entry)) (now (costs .entry))) states values (now (fronts .exit)) (now (onwards .exit)) (now (held .exit)) ⌝ }
@@ -362,7 +366,7 @@ pub(crate) fn step(
     hints: &mut [u8],
     fronts: &mut [u32],
     onwards: &mut [u32],
-    held: &mut [u32],
+    held: &mut [u16],
 ) -> Mask
     requires { ⌜ (1 ≤ states) × (states ≤ mostStates) × (values ≤ mostValues) × (length (now targets) ≡ tableSize) × (length (now costs) ≡ tableSize) × (place ≤ mostPlaces) × (states ≤ length (now row)) × (1 ≤ now span) × (now span ≤ 8) × (states ≤ length (now front)) × (length (now next) ≡ 256) × (length (now onward) ≡ 256) × (length (now hints) ≡ mostValues) × (length (now fronts) ≡ 512) × (length (now onwards) ≡ 512) × (length (now held) ≡ 8) × Low states (now front) × Low states (now row) × Loaded (λ t. getD (now next) t 0) states (now next) × Blank states (now onward) × Past (turned (now targets) (now costs)) states values (now fronts) (now onwards) (now held) ⌝ }
     ensures { λ r. ⌜ Stepped (turned (now (targets .entry)) (now (costs .entry))) states (choices values (mask .0)) (now (row .entry)) (now (front .entry)) (now (next .entry)) (now (onward .entry)) (now (front .exit)) (now (next .exit)) (now (onward .exit)) (r .0) × (1 ≤ now (span .exit)) × (now (span .exit) ≤ 8) × Past (turned (now (targets .entry)) (now (costs .entry))) states values (now (fronts .exit)) (now (onwards .exit)) (now (held .exit)) ⌝ }
@@ -398,8 +402,18 @@ pub(crate) fn step(
     kept
 }
 
+// Whether a place has the mask of the place before.
+pub(crate) fn again(masks: &[u16], i: usize) -> bool
+    requires { ⌜ i < length (now masks) ⌝ }
+{
+    if i == 0 {
+        return false;
+    }
+    masks[i] == masks[i - 1]
+}
+
 // The forward pass: writes the kept masks, and gives the least cost, one more than the top where no roster is allowed.
-pub fn pass(
+pub(crate) fn pass(
     states: usize,
     values: usize,
     targets: &[u8],
@@ -408,26 +422,23 @@ pub fn pass(
     spent: u32,
     masks: &[u16],
     work: &[u32],
-    front: &mut [u32],
-    next: &mut [u32],
-    onward: &mut [u32],
-    hints: &mut [u8],
-    fronts: &mut [u32],
-    onwards: &mut [u32],
     kept: &mut [u16],
 ) -> u32
-    requires { ⌜ Sizes states values (now targets) (now costs) (now masks) (now masks) (now work) × LowRows states (length (now masks)) (now work) × (start .0 < states) × (spent ≤ top) × (length (now front) ≡ mostStates) × (length (now next) ≡ 256) × (length (now onward) ≡ 256) × (length (now hints) ≡ mostValues) × (length (now fronts) ≡ 512) × (length (now onwards) ≡ 512) × (length (now kept) ≡ length (now masks)) × Loaded (λ t. getD (now next) t 0) states (now next) ⌝ }
+    requires { ⌜ Sizes states values (now targets) (now costs) (now masks) (now masks) (now work) × LowRows states (length (now masks)) (now work) × (start .0 < states) × (spent ≤ top) × (length (now kept) ≡ length (now masks)) ⌝ }
     ensures { λ r. ⌜ Tells (turned (now (targets .entry)) (now (costs .entry))) states values (start .0) spent (now (masks .entry)) (now (work .entry)) (now (kept .exit)) r ⌝ }
 {
-    open_front(states, start, spent, work[start.0 as usize], front);
-    rows::blank(states, TOP + 1, onward);
-    let mut held = [0u32; MOST_SPAN];
+    let mut front = [0u32; bounds::MOST_STATES];
+    let mut next = [0u32; BYTES];
+    let mut onward = [0u32; BYTES];
+    let mut hints = [0u8; bounds::MOST_VALUES];
+    let mut fronts = [0u32; PAST];
+    let mut onwards = [0u32; PAST];
+    let mut held = [0u16; MOST_SPAN];
+    open_front(states, start, spent, work[start.0 as usize], &mut front);
+    rows::blank(states, TOP + 1, &mut onward);
     let mut span: usize = 1;
-    let mut last: u16 = 0;
     let mut i: usize = 0;
     while i < masks.len() {
-        let mask = masks[i];
-        let again = mask == last;
         let at = (i + 1) * bounds::MOST_STATES;
         let end = at + bounds::MOST_STATES;
         kept[i] = step(
@@ -435,21 +446,20 @@ pub fn pass(
             values,
             targets,
             costs,
-            Mask(mask),
+            Mask(masks[i]),
             i,
-            again,
+            again(masks, i),
             &work[at..end],
             &mut span,
-            front,
-            next,
-            onward,
-            hints,
-            fronts,
-            onwards,
+            &mut front,
+            &mut next,
+            &mut onward,
+            &mut hints,
+            &mut fronts,
+            &mut onwards,
             &mut held,
         ).0;
-        last = mask;
         i += 1;
     }
-    cheapest(states, front)
+    cheapest(states, &front)
 }

@@ -1,4 +1,6 @@
-// The forward pass and the walk along the first roster.
-pub mod forward;
+// The two passes together: the masks that are kept, the least cost, and the first roster.
+mod alone;
+mod forward;
 mod past;
-pub mod walk;
+mod walk;
+pub mod whole;

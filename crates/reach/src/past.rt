@@ -3,9 +3,10 @@ ghost use mathlib.Core.Path.{_≡_};
 ghost use Prim.Native.Nat.{suc, _+_, _*_, _≤_, _<_, min};
 ghost use lib.ListN.{length, getD, set};
 ghost use Rattle.meaning.specs.Bounds.{mostStates, top};
-ghost use Rattle.rooms.specs.Tables.{Filled, Matches};
-ghost use Rattle.reach.specs.Looks.{Low, Lows, Known, Slotted};
+ghost use Rattle.rooms.specs.Tables.{Filled, Matches, Laid};
+ghost use Rattle.reach.specs.Looks.{Low, Lows, Known};
 use kinds::Mask;
+use kinds::State;
 use rooms::backward::MOST_SPAN;
 use rooms::rows;
 use rules::bounds;
@@ -48,16 +49,16 @@ pub(crate) fn lift(count: usize, rise: u32, from: &[u32], row: &mut [u32])
 }
 
 // The first live state, where there is one.
-pub(crate) fn alive(states: usize, front: &[u32]) -> usize
-    requires { ⌜ (1 ≤ states) × (states ≤ length (now front)) ⌝ }
-    ensures { λ r. ⌜ r < states ⌝ }
+pub(crate) fn alive(states: usize, front: &[u32]) -> State
+    requires { ⌜ (1 ≤ states) × (states ≤ mostStates) × (states ≤ length (now front)) ⌝ }
+    ensures { λ r. ⌜ r .0 < states ⌝ }
 {
-    let mut q: usize = 0;
-    while q + 1 < states {
-        if front[q] <= TOP {
+    let mut q = State(0);
+    while (q.0 as usize) + 1 < states {
+        if front[q.0 as usize] <= TOP {
             return q;
         }
-        q += 1;
+        q = State(q.0 + 1);
     }
     q
 }
@@ -67,7 +68,7 @@ pub(crate) fn rise_from(states: usize, slot: usize, front: &[u32], fronts: &[u32
     requires { ⌜ (1 ≤ states) × (states ≤ mostStates) × (states ≤ length (now front)) × (slot < 8) × (length (now fronts) ≡ 512) × Low states (now front) ⌝ }
     ensures { λ r. ⌜ r ≤ suc top ⌝ }
 {
-    let q = alive(states, front);
+    let q = alive(states, front).0 as usize;
     let at = slot * bounds::MOST_STATES + q;
     rows::less(front[q], fronts[at])
 }
@@ -79,15 +80,15 @@ pub(crate) fn rise_to(
     slot: usize,
     front: &[u32],
     fronts: &[u32],
-    held: &[u32],
+    held: &[u16],
 ) -> u32
     requires { ⌜ (1 ≤ states) × (states ≤ mostStates) × (slot < 8) × (states ≤ length (now front)) × (length (now fronts) ≡ 512) × (length (now held) ≡ 8) × Low states (now front) × Lows states (now fronts) (now held) ⌝ }
     ensures { λ r. ⌜ Known states (mask .0) slot r (now (front .entry)) (now (fronts .entry)) (now (held .entry)) ⌝ }
 {
-    if mask.0 == 0 {
+    if mask.0 == Mask::EMPTY.0 {
         return TOP + 2;
     }
-    if held[slot] != (mask.0 as u32) {
+    if held[slot] != mask.0 {
         return TOP + 2;
     }
     let rise = rise_from(states, slot, front, fronts);
@@ -116,14 +117,14 @@ pub(crate) fn note(
     onward: &[u32],
     fronts: &mut [u32],
     onwards: &mut [u32],
-    held: &mut [u32],
+    held: &mut [u16],
 )
     requires { ⌜ (states ≤ mostStates) × (slot < 8) × (states ≤ length (now front)) × (states ≤ length (now onward)) × (length (now fronts) ≡ 512) × (length (now onwards) ≡ 512) × (length (now held) ≡ 8) ⌝ }
-    ensures { λ _. ⌜ Slotted states slot (now (front .entry)) (now (fronts .entry)) (now (fronts .exit)) × Slotted states slot (now (onward .entry)) (now (onwards .entry)) (now (onwards .exit)) × (now (held .exit) ≡ set (now (held .entry)) slot (mask .0)) ⌝ }
+    ensures { λ _. ⌜ Laid (λ k. getD (now (front .entry)) k 0) states slot (now (fronts .entry)) (now (fronts .exit)) × Laid (λ k. getD (now (onward .entry)) k 0) states slot (now (onwards .entry)) (now (onwards .exit)) × (now (held .exit) ≡ set (now (held .entry)) slot (mask .0)) ⌝ }
 {
     let at = slot * bounds::MOST_STATES;
     let end = at + bounds::MOST_STATES;
     rows::copy(states, front, &mut fronts[at..end]);
     rows::copy(states, onward, &mut onwards[at..end]);
-    held[slot] = mask.0 as u32;
+    held[slot] = mask.0;
 }

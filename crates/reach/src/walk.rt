@@ -8,7 +8,9 @@ ghost use Rattle.reach.specs.Looks.{takeable, LowRows, Walks};
 use kinds::Mask;
 use kinds::State;
 use kinds::Value;
+use rooms::backward::BYTES;
 use rooms::rows;
+use rooms::turn::turned_at;
 use rules::bounds;
 
 // Whether a value can be taken at a state, with a cost spent, so that a roster goes on.
@@ -27,12 +29,12 @@ pub(crate) fn takeable(
     if !mask.has(Value(v.0)) {
         return false;
     }
-    let at = (v.0 as usize) * bounds::MOST_STATES + (q.0 as usize);
+    let at = turned_at(q, v);
     spent + (costs[at] as u32) < next[targets[at] as usize]
 }
 
 // Writes the first roster, and says whether there is one. None can be missing but at the first place, so nothing is written then.
-pub fn walk(
+pub(crate) fn walk(
     states: usize,
     values: usize,
     targets: &[u8],
@@ -41,34 +43,41 @@ pub fn walk(
     spent: u32,
     masks: &[u16],
     work: &[u32],
-    next: &mut [u32],
     roster: &mut [u8],
 ) -> bool
-    requires { ⌜ Sizes states values (now targets) (now costs) (now masks) (now masks) (now work) × LowRows states (length (now masks)) (now work) × (start .0 < states) × (spent ≤ top) × (length (now next) ≡ 256) × (length (now roster) ≡ length (now masks)) × Loaded (λ t. getD (now next) t 0) states (now next) ⌝ }
+    requires { ⌜ Sizes states values (now targets) (now costs) (now masks) (now masks) (now work) × LowRows states (length (now masks)) (now work) × (start .0 < states) × (spent ≤ top) × (length (now roster) ≡ length (now masks)) ⌝ }
     ensures { λ r. ⌜ Walks (turned (now (targets .entry)) (now (costs .entry))) states values (start .0) spent (now (masks .entry)) (now (work .entry)) (now (roster .entry)) (now (roster .exit)) r ⌝ }
 {
-    let mut q = start.0;
+    let mut next = [0u32; BYTES];
+    let mut q = start;
     let mut cost = spent;
     let mut i: usize = 0;
     'places: while i < masks.len() {
         let row = (i + 1) * bounds::MOST_STATES;
         let end = row + bounds::MOST_STATES;
-        rows::copy(states, &work[row..end], next);
-        let mask = masks[i];
-        let mut v: u8 = 0;
+        rows::copy(states, &work[row..end], &mut next);
+        let mut v = Value(0);
         let chosen = loop {
-            if values <= (v as usize) {
+            if values <= (v.0 as usize) {
                 break 'places;
             }
-            if takeable(targets, costs, next, Mask(mask), State(q), cost, Value(v)) {
+            if takeable(
+                targets,
+                costs,
+                &next,
+                Mask(masks[i]),
+                State(q.0),
+                cost,
+                Value(v.0),
+            ) {
                 break v;
             }
-            v += 1;
+            v = Value(v.0 + 1);
         };
-        roster[i] = chosen;
-        let at = (chosen as usize) * bounds::MOST_STATES + (q as usize);
+        roster[i] = chosen.0;
+        let at = turned_at(q, chosen);
         cost += costs[at] as u32;
-        q = targets[at];
+        q = State(targets[at]);
         i += 1;
     }
     i == masks.len()

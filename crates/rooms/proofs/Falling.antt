@@ -11,29 +11,29 @@ use lib.Seq.{getD-set-same, getD-set-other, ext-getD}
 use borrow.Author.Tests.{lt-ltb}
 use Rattle.meaning.specs.Bounds.{top}
 use Rattle.rules.specs.Answers.{zeros}
-use Rattle.rooms.specs.Tables.{Net, turned, choices, best, capped, before, Frame, frame, room, layer, Layers, Laid, Loaded, Filled, Matches, Alike, Lays}
-use borrow.Rule.Slice.PartMut.{putMid, midOf}
-use Rattle.rooms.proofs.Filling.{row-part, put-in, put-behind}
-use Rattle.rooms.proofs.Turning.{part-long}
+use Rattle.rooms.specs.Tables.{copied, Net, turned, choices, best, capped, before, Frame, frame, room, layer, Layers, Laid, Loaded, Filled, Matches, Alike, Lays}
+use borrow.Rule.Slice.PartMut.{putMid, midOf, mid-len}
+use Rattle.rooms.proofs.Filling.{copied-filled, row-part, part-copied, laid-put, laid-outside}
 use Rattle.rooms.proofs.Layering.{drop-places, layer-none, layers-lay, layers-more}
 
 -- a row laid as another one of the table, less a fall
-pub laid-like : (n like fall cap i : ℕ) (work ys was next mid now : List ℕ) → n ≤ 64 → i * 64 + 64 ≤ length work
+pub laid-like : (n like fall cap i : ℕ) (work ys next mid now : List ℕ) → n ≤ 64 → i * 64 + 64 ≤ length work → like * 64 + 64 ≤ length work → n ≤ length next → n ≤ length now
     → length ys ≡ length (midOf (i * 64) (i * 64 + 64 - i * 64) work)
-    → Filled (λ k. getD (take (like * 64 + 64 - like * 64) (drop (like * 64) work)) k 0) n next mid
-    → Filled (λ k. min cap (getD mid k 0 - fall)) n mid now → Filled (λ k. getD now k 0) n was ys
+    → mid ≡ copied n (take (like * 64 + 64 - like * 64) (drop (like * 64) work)) next → Filled (λ k. min cap (getD mid k 0 - fall)) n mid now
+    → ys ≡ copied n now (midOf (i * 64) (i * 64 + 64 - i * 64) work)
     → Laid (λ q. min cap (getD work (like * 64 + q) 0 - fall)) n i work (putMid (i * 64) (i * 64 + 64 - i * 64) work ys)
     × Filled (λ q. min cap (getD work (like * 64 + q) 0 - fall)) n next now
-laid-like n like fall cap i work ys was next mid now h l e a b c = (record { row = row; behind = behind }, record { done = done; left = λ k m. b .left k m ∙ a .left k m })
+laid-like n like fall cap i work ys next mid now h l m p o e x b y =
+    (laid-put i (i * 64) work ys h refl l e (record { done = λ q k. c .done q k ∙ done q k; left = c .left }), record { done = done; left = λ k m. b .left k m ∙ a .left k m })
   where
+    a : Filled (λ k. getD (take (like * 64 + 64 - like * 64) (drop (like * 64) work)) k 0) n next mid
+    a = part-copied (like * 64) work h m p x
+
+    c : Filled (λ k. getD now k 0) n (midOf (i * 64) (i * 64 + 64 - i * 64) work) ys
+    c = copied-filled n now o (omega (arith, mid-len (i * 64) (i * 64 + 64) work l)) y
+
     done : (q : ℕ) → q < n → getD now q 0 ≡ min cap (getD work (like * 64 + q) 0 - fall)
     done q k = b .done q k ∙ ap (λ (x : ℕ). min cap (x - fall)) (a .done q k ∙ row-part work like (like * 64 + 64 - like * 64) q (omega arith))
-
-    row : (q : ℕ) → q < n → getD (putMid (i * 64) (i * 64 + 64 - i * 64) work ys) (i * 64 + q) 0 ≡ min cap (getD work (like * 64 + q) 0 - fall)
-    row q k = put-in (i * 64) (i * 64 + 64 - i * 64) work ys (omega arith) q (omega (arith, part-long i work ys l e)) ∙ (c .done q k ∙ done q k)
-
-    behind : (k : ℕ) → i * 64 + 64 ≤ k → getD (putMid (i * 64) (i * 64 + 64 - i * 64) work ys) k 0 ≡ getD work k 0
-    behind = put-behind (i * 64) (i * 64 + 64) work ys (omega arith) l (part-long i work ys l e ∙ omega arith)
 
 -- whether two layers are alike, as the code finds it
 pub alike-not : (n : ℕ) (ms ls : List ℕ) (i like : ℕ) (next work : List ℕ) → Alike n 366002 ms ls i like next work
@@ -130,15 +130,15 @@ module _ (f : Frame) (ms ls : List ℕ) (same : length ls ≡ length ms) where
       all t (no h) = layer-none f ms ls same (suc i) t (omega arith) ∙ omega (arith, layer-none f ms ls same (suc like) t (omega arith))
 
 -- layer i, laid as a layer that is alike
-pub lays-like : (a : Net) (qs vs : ℕ) (ms ls : List ℕ) (i like fall cap : ℕ) (next work next′ work′ : List ℕ) → length ls ≡ length ms → i < like → like < length ms
+pub lays-like : (a : Net) (qs vs : ℕ) (ms ls : List ℕ) (i like fall cap : ℕ) (next work next′ work′ : List ℕ) → qs ≤ 64 → length ls ≡ length ms → i < like → like < length ms
     → cap ≡ suc (min (before ls i) top) → Alike qs fall ms ls i like next work → fall ≤ suc top
     → Laid (λ q. min cap (getD work (like * 64 + q) 0 - fall)) qs i work work′ × Filled (λ q. min cap (getD work (like * 64 + q) 0 - fall)) qs next next′
     → Lays a qs vs ms ls i next work next′ work′
-lays-like a qs vs ms ls i like fall cap next work next′ work′ same hi hl e k t y = record { right = right }
+lays-like a qs vs ms ls i like fall cap next work next′ work′ few same hi hl e k t y = record { right = right; beside = laid-outside (omega arith) (y .0) }
   where
     right : (accepting : ℕ) → Layers (frame a qs vs accepting) ms ls (i + 1) work × Loaded (layer (frame a qs vs accepting) ms ls (i + 1)) qs next
         → Layers (frame a qs vs accepting) ms ls i work′ × Loaded (layer (frame a qs vs accepting) ms ls i) qs next′
-    right accepting r = layers-lay f ms ls same (λ q. min cap (getD work (like * 64 + q) 0 - fall)) i (omega arith) is r y
+    right accepting r = layers-lay f ms ls same (λ q. min cap (getD work (like * 64 + q) 0 - fall)) i few (omega arith) is r y
       where
         f : Frame
         f = frame a qs vs accepting
@@ -152,12 +152,15 @@ lays-like a qs vs ms ls i like fall cap next work next′ work′ same hi hl e k
         is : (q : ℕ) → q < qs → min cap (getD work (like * 64 + q) 0 - fall) ≡ layer f ms ls i q
         is q h = rw (e, r .0 .right like q (omega arith) (omega arith) h) (layer-like f ms ls same i like fall q (omega arith) hl h (k .mask t) (k .free t) behind)
 
-pub lays-more : (ts cs : List ℕ) (qs vs : ℕ) (ms ls : List ℕ) (i cap : ℕ) (next work next′ work′ : List ℕ) → length ls ≡ length ms → i < length ms
+pub lays-more : (ts cs : List ℕ) (qs vs : ℕ) (ms ls : List ℕ) (i cap : ℕ) (next work next′ work′ : List ℕ) → qs ≤ 64 → length ls ≡ length ms → i < length ms
     → cap ≡ suc (min (before ls i) top)
     → Laid (λ q. min cap (best (turned ts cs) (λ t. getD next t 0) q (choices vs (getD ms i 0)))) qs i work work′
     × Filled (λ q. min cap (best (turned ts cs) (λ t. getD next t 0) q (choices vs (getD ms i 0)))) qs next next′
     → Lays (turned ts cs) qs vs ms ls i next work next′ work′
-lays-more ts cs qs vs ms ls i cap next work next′ work′ same h e y = record { right = λ accepting r. layers-more (frame (turned ts cs) qs vs accepting) ms ls same i cap work work′ next next′ h e r y }
+lays-more ts cs qs vs ms ls i cap next work next′ work′ few same h e y = record {
+  right = λ accepting r. layers-more (frame (turned ts cs) qs vs accepting) ms ls same i cap work work′ next next′ few h e r y;
+  beside = laid-outside (omega arith) (y .0);
+}
 
 -- one layer more, the last first
 pub lays-down : {a : Net} {qs vs i : ℕ} {ms ls next work next′ work′ : List ℕ} (accepting : ℕ) → 0 < i → Lays a qs vs ms ls (i - 1) next work next′ work′

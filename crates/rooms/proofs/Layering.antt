@@ -1,48 +1,47 @@
 -- The rows of the work table, laid layer by layer.
-use mathlib.Core.Path.{_≡_, refl, sym, ap, _∙_, subst}
+use mathlib.Core.Path.{_≡_, refl, sym, ap, _∙_}
 use mathlib.Core.Bool.{Bool, true, false, cond}
 use mathlib.Core.List.{List, [], _∷_}
 use Prim.Native.Nat.{ℕ, zero, suc, _+_, _*_, _-_, _≤_, _<_, min}
 use native.Mathlib.Numerals.{add-one}
 use native.Mathlib.Omega.{arith}
 use native.Mathlib.Decide.{ℕ-discrete, decLt}
-use lib.ListN.{length, getD, take, drop, List·getD-eq-default}
+use lib.ListN.{length, getD, replicate, take, drop, length-replicate, getD-replicate, List·getD-eq-default}
 use borrow.Author.Tests.{lt-ltb, le-ltb}
-use borrow.Rule.Slice.PartMut.{putMid, midOf}
+use borrow.Rule.Slice.PartMut.{putMid, midOf, same-len-mid}
 use Rattle.kinds.specs.Bits.{bit}
 use Rattle.meaning.specs.Meaning.{Place, place, places}
 use Rattle.meaning.specs.Bounds.{top}
-use Rattle.rooms.specs.Tables.{Filled, choices, best, capped, before, Frame, room, layer, Layers, Laid, Loaded}
-use Rattle.rooms.proofs.Filling.{row-part, put-in, put-behind}
-use Rattle.rooms.proofs.Turning.{part-long}
+use Rattle.rooms.specs.Tables.{copied, Filled, choices, best, capped, before, Frame, room, layer, Layers, Laid, Loaded}
+use Rattle.rooms.proofs.Filling.{row-part, part-copied, laid-put}
 
 -- a row that was filled as a middle part, and copied from there
-pub laid-row : (g : ℕ → ℕ) (n i : ℕ) (work ys was next now : List ℕ) → n ≤ 64 → i * 64 + 64 ≤ length work
-    → length ys ≡ length (midOf (i * 64) (i * 64 + 64 - i * 64) work) → Filled g n was ys
-    → Filled (λ k. getD (take (i * 64 + 64 - i * 64) (drop (i * 64) (putMid (i * 64) (i * 64 + 64 - i * 64) work ys))) k 0) n next now
+pub laid-row : {g : ℕ → ℕ} {n : ℕ} (i : ℕ) (work : List ℕ) {ys next now : List ℕ} → n ≤ 64 → i * 64 + 64 ≤ length work
+    → length ys ≡ length (midOf (i * 64) (i * 64 + 64 - i * 64) work) → Filled g n (midOf (i * 64) (i * 64 + 64 - i * 64) work) ys
+    → n ≤ length next → now ≡ copied n (take (i * 64 + 64 - i * 64) (drop (i * 64) (putMid (i * 64) (i * 64 + 64 - i * 64) work ys))) next
     → Laid g n i work (putMid (i * 64) (i * 64 + 64 - i * 64) work ys) × Filled g n next now
-laid-row g n i work ys was next now h l e r f = (record { row = row; behind = behind }, record { done = done; left = f .left })
+laid-row {g} {n} i work {ys} {next} {now} h l e r m d = (y, record { done = done; left = f .left })
   where
-    row : (q : ℕ) → q < n → getD (putMid (i * 64) (i * 64 + 64 - i * 64) work ys) (i * 64 + q) 0 ≡ g q
-    row q k = put-in (i * 64) (i * 64 + 64 - i * 64) work ys (omega arith) q (omega (arith, part-long i work ys l e)) ∙ r .done q k
+    f : Filled (λ k. getD (take (i * 64 + 64 - i * 64) (drop (i * 64) (putMid (i * 64) (i * 64 + 64 - i * 64) work ys))) k 0) n next now
+    f = part-copied (i * 64) (putMid (i * 64) (i * 64 + 64 - i * 64) work ys) h (omega (arith, same-len-mid (i * 64) (i * 64 + 64 - i * 64) work ys e)) m d
 
-    behind : (k : ℕ) → i * 64 + 64 ≤ k → getD (putMid (i * 64) (i * 64 + 64 - i * 64) work ys) k 0 ≡ getD work k 0
-    behind = put-behind (i * 64) (i * 64 + 64) work ys (omega arith) l (part-long i work ys l e ∙ omega arith)
+    y : Laid g n i work (putMid (i * 64) (i * 64 + 64 - i * 64) work ys)
+    y = laid-put i (i * 64) work ys h refl l e r
 
     done : (k : ℕ) → k < n → getD now k 0 ≡ g k
-    done k m = f .done k m ∙ (row-part (putMid (i * 64) (i * 64 + 64 - i * 64) work ys) i (i * 64 + 64 - i * 64) k (omega arith) ∙ row k m)
+    done k m = f .done k m ∙ (row-part (putMid (i * 64) (i * 64 + 64 - i * 64) work ys) i (i * 64 + 64 - i * 64) k (omega arith) ∙ y .row k m)
 
 pub copied-row : (i : ℕ) (work : List ℕ) (n : ℕ) (next now : List ℕ) → n ≤ 64
     → Filled (λ k. getD (take ((i + 1) * 64 + 64 - (i + 1) * 64) (drop ((i + 1) * 64) work)) k 0) n next now → (u : ℕ) → u < n → getD now u 0 ≡ getD work (suc i * 64 + u) 0
 copied-row i work n next now h l u k = l .done u k ∙ (row-part work (i + 1) ((i + 1) * 64 + 64 - (i + 1) * 64) u (omega arith) ∙ rw add-one)
 
 -- no room at any target byte, before the last layer is loaded
-pub blank-loaded : {was next : List ℕ} (n : ℕ) → length next ≡ 256 → Filled (λ k. 0) 256 was next → Loaded (λ t. 0) n next
-blank-loaded {was} {next} n e f = record { done = λ k h. at k (decLt k 256); none = λ k h. at k (decLt k 256) }
+pub loaded-none : (n : ℕ) → Loaded (λ t. 0) n (replicate 256 0)
+loaded-none n = record { done = λ k h. at k (decLt k 256); none = λ k h. at k (decLt k 256) }
   where
-    at : (k : ℕ) → Dec (k < 256) → getD next k 0 ≡ 0
-    at k (yes h) = f .done k h
-    at k (no h) = List·getD-eq-default next 0 {n = k} (omega arith)
+    at : (k : ℕ) → Dec (k < 256) → getD {A = ℕ} (replicate 256 0) k 0 ≡ 0
+    at k (yes h) = getD-replicate {A = ℕ} 256 k 0 0 h
+    at k (no h) = List·getD-eq-default (replicate 256 0) 0 {n = k} (omega (arith, length-replicate {A = ℕ} 256 0))
 
 -- places one by one
 pub drop-places : (ms ls : List ℕ) (i : ℕ) → length ls ≡ length ms → i < length ms
@@ -106,27 +105,26 @@ module _ (f : Frame) (ms ls : List ℕ) (same : length ls ≡ length ms) where
       rw (drop-places ms ls i same h, lt-ltb q (f .states) hq, e, n)
 
   -- any row that is layer i, laid before the layers behind it
-  pub layers-lay : (g : ℕ → ℕ) (i : ℕ) {was work next now : List ℕ} → i < length ms → ((q : ℕ) → q < f .states → g q ≡ layer f ms ls i q)
+  pub layers-lay : (g : ℕ → ℕ) (i : ℕ) {was work next now : List ℕ} → f .states ≤ 64 → i < length ms → ((q : ℕ) → q < f .states → g q ≡ layer f ms ls i q)
       → Layers f ms ls (i + 1) was × Loaded (layer f ms ls (i + 1)) (f .states) next → Laid g (f .states) i was work × Filled g (f .states) next now
       → Layers f ms ls i work × Loaded (layer f ms ls i) (f .states) now
-  layers-lay g i {was} {work} {next} {now} h right r y =
+  layers-lay g i {was} {work} {next} {now} few h right r y =
       (record { right = λ j q a b hq. go j q a b hq (ℕ-discrete j i) }, loaded-fill (layer f ms ls i) (r .1) (y .1) right)
     where
       go : (j q : ℕ) → i ≤ j → j ≤ length ms → q < f .states → Dec (j ≡ i) → getD work (j * 64 + q) 0 ≡ layer f ms ls j q
       go j q a b hq (yes d) = rw d (y .0 .row q hq ∙ right q hq)
-      go j q a b hq (no d) = y .0 .behind (j * 64 + q) (omega arith) ∙ r .0 .right j q (omega arith) b hq
+      go j q a b hq (no d) = y .0 .others j q (omega arith) (λ e k. d e) ∙ r .0 .right j q (omega arith) b hq
 
-  pub layers-more : (i cap : ℕ) (was work next now : List ℕ) → i < length ms → cap ≡ suc (min (before ls i) top)
+  pub layers-more : (i cap : ℕ) (was work next now : List ℕ) → f .states ≤ 64 → i < length ms → cap ≡ suc (min (before ls i) top)
       → Layers f ms ls (i + 1) was × Loaded (layer f ms ls (i + 1)) (f .states) next
       → Laid (λ q. min cap (best (f .net) (λ t. getD next t 0) q (choices (f .values) (getD ms i 0)))) (f .states) i was work
       × Filled (λ q. min cap (best (f .net) (λ t. getD next t 0) q (choices (f .values) (getD ms i 0)))) (f .states) next now
       → Layers f ms ls i work × Loaded (layer f ms ls i) (f .states) now
-  layers-more i cap was work next now h e r y =
-      layers-lay (λ q. min cap (best (f .net) (λ t. getD next t 0) q (choices (f .values) (getD ms i 0)))) i h (λ q hq. more-row i cap q next h e (rw add-one at (r .1)) hq) r y
+  layers-more i cap was work next now few h e r y =
+      layers-lay (λ q. min cap (best (f .net) (λ t. getD next t 0) q (choices (f .values) (getD ms i 0)))) i few h (λ q hq. more-row i cap q next h e (rw add-one at (r .1)) hq) r y
 
-  pub layers-end : {i : ℕ} {work next : List ℕ} → i ≤ 0 → Layers f ms ls i work × Loaded (layer f ms ls i) (f .states) next
-      → Layers f ms ls 0 work × Loaded (layer f ms ls 0) (f .states) next
-  layers-end {i} {work} {next} h y = let e : i ≡ 0 = omega arith in subst (λ (x : ℕ). Layers f ms ls x work × Loaded (layer f ms ls x) (f .states) next) e y
+  pub layers-end : {i : ℕ} {work : List ℕ} → i ≤ 0 → Layers f ms ls i work → Layers f ms ls 0 work
+  layers-end {i} h y = let e : i ≡ 0 = omega arith in rw e at y
 
   -- a row that was copied from the filled work table
   pub row-copied : (i : ℕ) (work next now : List ℕ) → f .states ≤ 64 → i < length ms → Layers f ms ls 0 work → ((k : ℕ) → f .states ≤ k → getD next k 0 ≡ 0)

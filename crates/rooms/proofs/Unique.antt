@@ -1,51 +1,74 @@
--- Of what a public contract of this crate promises it leaves one content: any two outcomes that it allows agree on it. What a contract
--- leaves open, no caller looks at. Assumes nothing.
-use mathlib.Core.Path.{_≡_, sym, ap, _∙_}
+-- Each public contract of this crate leaves one content of what is lent: any two outcomes that it allows are equal. A lent row or table
+-- keeps its length. Assumes nothing.
+use mathlib.Core.Path.{_≡_, sym, ap, subst, _∙_}
 use mathlib.Core.List.{List}
-use Prim.Native.Nat.{ℕ, _+_, _*_, _≤_, _<_}
+use Prim.Native.Nat.{ℕ, suc, _+_, _*_, _-_, _/_, _%_, _≤_, _<_}
 use native.Mathlib.Omega.{arith}
-use native.Mathlib.Decide.{decLt}
+use native.Mathlib.Decide.{decLt, ℕ-discrete}
 use lib.ListN.{length, getD, drop}
 use lib.Seq.{ext-getD}
-use Rattle.meaning.specs.Bounds.{mostStates}
+use Rattle.meaning.specs.Bounds.{mostStates, tableSize}
 use Rattle.meaning.specs.Meaning.{rulesOf, places}
 use Rattle.rules.specs.Answers.{zeros}
-use Rattle.rooms.specs.Tables.{turned, frame, Filled, capped, before, layer, Prepared}
+use Rattle.rooms.specs.Tables.{blanked, copied, turned, frame, capped, before, layer, Outside, Sizes, Prepared, Prepares}
 use Rattle.rooms.proofs.Rooms.{room-same}
+use Rattle.rooms.proofs.Sizing.{sizes-right}
 
--- a lent row keeps its length
-filled-unique : (f : ℕ → ℕ) (n : ℕ) (was a b : List ℕ) → length a ≡ length b → Filled f n was a → Filled f n was b → a ≡ b
-filled-unique f n was a b e r s = ext-getD 0 a b e (λ k h. go k (decLt k n))
-  where
-    go : (k : ℕ) → Dec (k < n) → getD a k 0 ≡ getD b k 0
-    go k (yes h) = r .done k h ∙ sym (s .done k h)
-    go k (no h) = r .left k (omega arith) ∙ sym (s .left k (omega arith))
+pub blank-unique : (count number : ℕ) (row a b : List ℕ) → a ≡ blanked count number row → b ≡ blanked count number row → a ≡ b
+blank-unique count number row a b e f = e ∙ sym f
 
-pub blank-unique : (count number : ℕ) (row a b : List ℕ) → length a ≡ length b → Filled (λ k. number) count row a → Filled (λ k. number) count row b → a ≡ b
-blank-unique count number = filled-unique (λ k. number) count
+pub copy-unique : (count : ℕ) (from row a b : List ℕ) → a ≡ copied count from row → b ≡ copied count from row → a ≡ b
+copy-unique count from row a b e f = e ∙ sym f
 
-pub copy-unique : (count : ℕ) (from row a b : List ℕ) → length a ≡ length b → Filled (λ k. getD from k 0) count row a → Filled (λ k. getD from k 0) count row b → a ≡ b
-copy-unique count from = filled-unique (λ k. getD from k 0) count
+pub less-unique : (x y a b : ℕ) → a ≡ x - y → b ≡ x - y → a ≡ b
+less-unique x y a b e f = e ∙ sym f
 
 pub wipe-unique : (table a b : List ℕ) → a ≡ zeros table → b ≡ zeros table → a ≡ b
 wipe-unique table a b e f = e ∙ sym f
 
--- the arcs and the rooms of the states and values that there are, and the whole loaded row
-pub prepare-unique : (qs vs : ℕ) (ts cs : List ℕ) (accepting : ℕ) (ms ls to fee next work to′ fee′ next′ work′ : List ℕ) → length next ≡ length next′
-    → Prepared qs vs ts cs accepting ms ls to fee next work → Prepared qs vs ts cs accepting ms ls to′ fee′ next′ work′
-    → ((q v : ℕ) → q < qs → v < vs → (turned to fee .to q v ≡ turned to′ fee′ .to q v) × (turned to fee .fee q v ≡ turned to′ fee′ .fee q v))
-    × ((j q : ℕ) → j ≤ length ms → q < qs → getD work (j * mostStates + q) 0 ≡ getD work′ (j * mostStates + q) 0)
-    × (next ≡ next′)
-unfolding layer
-prepare-unique qs vs ts cs accepting ms ls to fee next work to′ fee′ next′ work′ e r s =
-    (λ q v h k. (r .arcs .to q v h k ∙ sym (s .arcs .to q v h k), r .arcs .fee q v h k ∙ sym (s .arcs .fee q v h k)), rooms, ext-getD 0 next next′ e (λ k h. row k (decLt k qs)))
+pub turned-at-unique : (q v a b : ℕ) → a ≡ v * mostStates + q → b ≡ v * mostStates + q → a ≡ b
+turned-at-unique q v a b e f = e ∙ sym f
+
+-- tables that agree inside and are as they were outside
+tables-one : (n rows : ℕ) (was a b : List ℕ) → length a ≡ length b → ((j q : ℕ) → j < rows → q < n → getD a (j * 64 + q) 0 ≡ getD b (j * 64 + q) 0)
+    → Outside n rows was a → Outside n rows was b → a ≡ b
+tables-one n rows was a b e r s t = ext-getD 0 a b e (λ k h. at k)
   where
-    same : (j q : ℕ) → layer (frame (turned to fee) qs vs accepting) ms ls j q ≡ layer (frame (turned to′ fee′) qs vs accepting) ms ls j q
-    same j q = ap (capped (before ls j)) (room-same (rulesOf qs vs ts cs accepting) (turned to fee) (turned to′ fee′) (r .arcs) (s .arcs) (drop j (places ms ls)) q)
+    go : (j q : ℕ) → q < 64 → Dec (j < rows) → Dec (q < n) → getD a (j * 64 + q) 0 ≡ getD b (j * 64 + q) 0
+    go j q m (yes h) (yes l) = r j q h l
+    go j q m (no h) l = s .same j q m (λ x y. h x) ∙ sym (t .same j q m (λ x y. h x))
+    go j q m (yes h) (no l) = s .same j q m (λ x y. l y) ∙ sym (t .same j q m (λ x y. l y))
 
-    rooms : (j q : ℕ) → j ≤ length ms → q < qs → getD work (j * mostStates + q) 0 ≡ getD work′ (j * mostStates + q) 0
-    rooms j q h k = r .rooms .right j q (omega arith) h k ∙ (same j q ∙ sym (s .rooms .right j q (omega arith) h k))
+    at : (k : ℕ) → getD a k 0 ≡ getD b k 0
+    at k =
+        let d : k / 64 * 64 + k % 64 ≡ k = omega arith in
+        subst (λ (z : ℕ). getD a z 0 ≡ getD b z 0) d (go (k / 64) (k % 64) (omega arith) (decLt (k / 64) rows) (decLt (k % 64) n))
 
-    row : (k : ℕ) → Dec (k < qs) → getD next k 0 ≡ getD next′ k 0
-    row k (yes h) = r .first .done k h ∙ (same 0 k ∙ sym (s .first .done k h))
-    row k (no h) = r .first .none k (omega arith) ∙ sym (s .first .none k (omega arith))
+module _ (qs vs : ℕ) (ts cs : List ℕ) (accepting : ℕ) (ms ls to fee work : List ℕ) where
+  prepared-one : (a b c a′ b′ c′ : List ℕ) → length a ≡ length a′ → length b ≡ length b′ → length c ≡ length c′
+      → Prepared qs vs ts cs accepting ms ls to fee work a b c → Prepared qs vs ts cs accepting ms ls to fee work a′ b′ c′ → (a ≡ a′) × (b ≡ b′) × (c ≡ c′)
+  unfolding layer turned
+  prepared-one a b c a′ b′ c′ e f g r s = (
+    tables-one qs vs to a a′ e (λ v q h k. r .arcs .to q v k h ∙ sym (s .arcs .to q v k h)) (r .beside-targets) (s .beside-targets),
+    tables-one qs vs fee b b′ f (λ v q h k. r .arcs .fee q v k h ∙ sym (s .arcs .fee q v k h)) (r .beside-costs) (s .beside-costs),
+    tables-one qs (suc (length ms)) work c c′ g rooms (r .beside-rooms) (s .beside-rooms),
+  )
+    where
+      rooms : (j q : ℕ) → j < suc (length ms) → q < qs → getD c (j * 64 + q) 0 ≡ getD c′ (j * 64 + q) 0
+      rooms j q h k =
+          r .rooms .right j q (omega arith) (omega arith) k
+          ∙ (ap (capped (before ls j)) (room-same (rulesOf qs vs ts cs accepting) (turned a b) (turned a′ b′) (r .arcs) (s .arcs) (drop j (places ms ls)) q)
+          ∙ sym (s .rooms .right j q (omega arith) (omega arith) k))
+
+  pub prepare-unique : (a b c a′ b′ c′ : List ℕ) → length a ≡ length a′ → length b ≡ length b′ → length c ≡ length c′
+      → Prepares qs vs ts cs accepting ms ls to fee work a b c → Prepares qs vs ts cs accepting ms ls to fee work a′ b′ c′ → (a ≡ a′) × (b ≡ b′) × (c ≡ c′)
+  prepare-unique a b c a′ b′ c′ e f g r s = go (sizes-right qs vs ts cs ms ls work) (ℕ-discrete (length to) tableSize) (ℕ-discrete (length fee) tableSize)
+    where
+      stays : (a ≡ to) × (b ≡ fee) × (c ≡ work) → (a′ ≡ to) × (b′ ≡ fee) × (c′ ≡ work) → (a ≡ a′) × (b ≡ b′) × (c ≡ c′)
+      stays x y = (x .0 ∙ sym (y .0), x .1 ∙ sym (y .1), x .2 ∙ sym (y .2))
+
+      go : Dec (Sizes qs vs ts cs ms ls work) → Dec (length to ≡ tableSize) → Dec (length fee ≡ tableSize) → (a ≡ a′) × (b ≡ b′) × (c ≡ c′)
+      go (yes h) (yes k) (yes l) = prepared-one a b c a′ b′ c′ e f g (r .right h k l) (s .right h k l)
+      go (no h) k l = stays (r .wrong (λ x y z. h x)) (s .wrong (λ x y z. h x))
+      go (yes h) (no k) l = stays (r .wrong (λ x y z. k y)) (s .wrong (λ x y z. k y))
+      go (yes h) (yes k) (no l) = stays (r .wrong (λ x y z. l z)) (s .wrong (λ x y z. l z))

@@ -1,10 +1,10 @@
 -- The backward table, as functions. Inner: no entry point's contract cites this file; proofs/ shows what the table means.
-use mathlib.Core.Bool.{Bool, true, cond, _&&_}
-use mathlib.Core.List.{List, [], _∷_}
+use mathlib.Core.Bool.{Bool, true, false, cond, _&&_, _||_}
+use mathlib.Core.List.{List, [], _∷_, _++_}
 use mathlib.Core.Path.{_≡_}
 use Prim.Native.Nat.{ℕ, zero, suc, _+_, _*_, _-_, _≤_, _<_, min, max}
 use lib.Dec.{ltb}
-use lib.ListN.{length, getD, drop}
+use lib.ListN.{length, getD, replicate, take, drop}
 use Rattle.kinds.specs.Bits.{bit}
 use Rattle.meaning.specs.Meaning.{Arcs, arcsOf, target, cost, Place, places}
 use Rattle.meaning.specs.Lists.{those}
@@ -43,6 +43,14 @@ pub record Frame : Type 0 where
 abbrev pub frame : Net → ℕ → ℕ → ℕ → Frame
 frame n q v a = record { net = n; states = q; values = v; accepting = a }
 
+-- a row with one number in its first n places; a row that has fewer stays
+unfoldable pub blanked : ℕ → ℕ → List ℕ → List ℕ
+blanked n x row = cond (ltb (length row) n) row (replicate n x ++ drop n row)
+
+-- a row with the first n numbers of another; where one of the two has fewer, the row stays
+unfoldable pub copied : ℕ → List ℕ → List ℕ → List ℕ
+copied n from row = cond (ltb (length from) n || ltb (length row) n) row (take n from ++ drop n row)
+
 -- a list that was filled up to n: f below n, what it was from n on
 pub record Filled (f : ℕ → ℕ) (n : ℕ) (was is : List ℕ) : Type 0 where
   pub done : (k : ℕ) → k < n → getD is k 0 ≡ f k
@@ -75,10 +83,14 @@ layer f ms ls i q = capped (before ls i) (room f (drop i (places ms ls)) q)
 pub record Layers (f : Frame) (ms ls : List ℕ) (i : ℕ) (work : List ℕ) : Type 0 where
   pub right : (j q : ℕ) → i ≤ j → j ≤ length ms → q < f .states → getD work (j * mostStates + q) 0 ≡ layer f ms ls j q
 
--- one row laid at layer i, with what stands behind it as it was
+-- row i of a table laid up to n, all else as it was
 pub record Laid (g : ℕ → ℕ) (n i : ℕ) (was is : List ℕ) : Type 0 where
   pub row : (q : ℕ) → q < n → getD is (i * mostStates + q) 0 ≡ g q
-  pub behind : (k : ℕ) → i * mostStates + mostStates ≤ k → getD is k 0 ≡ getD was k 0
+  pub others : (j q : ℕ) → q < mostStates → (j ≡ i → q < n → ⊥) → getD is (j * mostStates + q) 0 ≡ getD was (j * mostStates + q) 0
+
+-- a table that is as it was, save up to n in its first rows
+pub record Outside (n rows : ℕ) (was is : List ℕ) : Type 0 where
+  pub same : (j q : ℕ) → q < mostStates → (j < rows → q < n → ⊥) → getD is (j * mostStates + q) 0 ≡ getD was (j * mostStates + q) 0
 
 -- a row by itself, with room for every target byte: no room at what is no state
 pub record Loaded (g : ℕ → ℕ) (n : ℕ) (next : List ℕ) : Type 0 where
@@ -99,6 +111,7 @@ pub record Alike (n fall : ℕ) (ms ls : List ℕ) (i like : ℕ) (next work : L
 pub record Lays (a : Net) (qs vs : ℕ) (ms ls : List ℕ) (i : ℕ) (next work next′ work′ : List ℕ) : Type 0 where
   pub right : (accepting : ℕ) → Layers (frame a qs vs accepting) ms ls (i + 1) work × Loaded (layer (frame a qs vs accepting) ms ls (i + 1)) qs next
       → Layers (frame a qs vs accepting) ms ls i work′ × Loaded (layer (frame a qs vs accepting) ms ls i) qs next′
+  pub beside : Outside qs (suc (length ms)) work work′
 
 -- what the passes are lent, in its sizes
 pub record Sizes (qs vs : ℕ) (ts cs ms ls work : List ℕ) : Type 0 where
@@ -111,8 +124,20 @@ pub record Sizes (qs vs : ℕ) (ts cs ms ls work : List ℕ) : Type 0 where
   pub all-limits : length ls ≡ length ms
   pub all-work : length work ≡ workSize (length ms)
 
--- what the whole backward pass leaves: the arcs of the rule set turned, the rooms of all layers, and those of layer 0 by themselves
-pub record Prepared (qs vs : ℕ) (ts cs : List ℕ) (accepting : ℕ) (ms ls to fee next work : List ℕ) : Type 0 where
-  pub arcs : Same (arcsOf qs vs ts cs) vs (turned to fee)
-  pub rooms : Layers (frame (turned to fee) qs vs accepting) ms ls 0 work
-  pub first : Loaded (layer (frame (turned to fee) qs vs accepting) ms ls 0) qs next
+-- whether they are so
+pub record Fits (qs vs : ℕ) (ts cs ms ls work : List ℕ) (found : Bool) : Type 0 where
+  pub right : found ≡ true → Sizes qs vs ts cs ms ls work
+  pub wrong : found ≡ false → Sizes qs vs ts cs ms ls work → ⊥
+
+-- what the whole backward pass leaves: the arcs of the rule set turned, and the rooms of all layers, all else as it was
+pub record Prepared (qs vs : ℕ) (ts cs : List ℕ) (accepting : ℕ) (ms ls to fee work to′ fee′ work′ : List ℕ) : Type 0 where
+  pub arcs : Same (arcsOf qs vs ts cs) vs (turned to′ fee′)
+  pub rooms : Layers (frame (turned to′ fee′) qs vs accepting) ms ls 0 work′
+  pub beside-targets : Outside qs vs to to′
+  pub beside-costs : Outside qs vs fee fee′
+  pub beside-rooms : Outside qs (suc (length ms)) work work′
+
+-- the same for whatever is lent: nothing is written where a size is wrong
+pub record Prepares (qs vs : ℕ) (ts cs : List ℕ) (accepting : ℕ) (ms ls to fee work to′ fee′ work′ : List ℕ) : Type 0 where
+  pub right : Sizes qs vs ts cs ms ls work → length to ≡ tableSize → length fee ≡ tableSize → Prepared qs vs ts cs accepting ms ls to fee work to′ fee′ work′
+  pub wrong : (Sizes qs vs ts cs ms ls work → length to ≡ tableSize → length fee ≡ tableSize → ⊥) → (to′ ≡ to) × (fee′ ≡ fee) × (work′ ≡ work)

@@ -5,10 +5,12 @@ ghost use Prim.Native.Nat.{suc, _+_, _*_, _-_, _≤_, _<_, min, max};
 ghost use lib.ListN.{length, getD};
 ghost use Rattle.kinds.specs.Bits.{bit};
 ghost use Rattle.meaning.specs.Bounds.{mostPlaces, mostStates, mostValues, tableSize, top};
-ghost use Rattle.rooms.specs.Tables.{Filled, turned, choices, best, before, frame, layer, Layers, Laid, Loaded, Alike, Lays, Sizes, Prepared};
+ghost use Rattle.rooms.specs.Tables.{Filled, turned, choices, best, before, frame, Layers, Laid, Outside, Alike, Lays, Sizes, Fits, Prepares};
 use crate::rows;
 use crate::turn;
+use crate::turn::turned_at;
 use kinds::Mask;
+use kinds::State;
 use kinds::Value;
 use rules::bounds;
 use rules::bounds::TOP;
@@ -18,11 +20,11 @@ use rules::numbers::lesser;
 pub const BYTES: usize = 256;
 
 // The room after the last place.
-pub(crate) fn ending(accepting: u64, cap: u32, q: usize) -> u32
-    requires { ⌜ q < mostStates ⌝ }
-    ensures { λ r. ⌜ r ≡ cond (bit accepting q) cap 0 ⌝ }
+pub(crate) fn ending(accepting: u64, cap: u32, q: State) -> u32
+    requires { ⌜ q .0 < mostStates ⌝ }
+    ensures { λ r. ⌜ r ≡ cond (bit accepting (q .0)) cap 0 ⌝ }
 {
-    if (accepting >> q) & 1 == 1 { cap } else { 0 }
+    if (accepting >> q.0) & 1 == 1 { cap } else { 0 }
 }
 
 // The row of the last layer.
@@ -30,35 +32,24 @@ pub(crate) fn ends(states: usize, accepting: u64, cap: u32, row: &mut [u32])
     requires { ⌜ (states ≤ mostStates) × (states ≤ length (now row)) ⌝ }
     ensures { λ _. ⌜ Filled (λ q. cond (bit accepting q) cap 0) states (now (row .entry)) (now (row .exit)) ⌝ }
 {
-    let mut q: usize = 0;
-    while q < states {
-        row[q] = ending(accepting, cap, q);
-        q += 1;
+    let mut q = State(0);
+    while (q.0 as usize) < states {
+        row[q.0 as usize] = ending(accepting, cap, State(q.0));
+        q = State(q.0 + 1);
     }
 }
 
 // A row raised to what one value leaves.
 pub(crate) fn raise(states: usize, targets: &[u8], costs: &[u16], next: &[u32], row: &mut [u32])
-    requires { ⌜ (states ≤ length (now targets)) × (states ≤ length (now costs)) × (256 ≤ length (now next)) × (states ≤ length (now row)) ⌝ }
+    requires { ⌜ (states ≤ mostStates) × (states ≤ length (now targets)) × (states ≤ length (now costs)) × (256 ≤ length (now next)) × (states ≤ length (now row)) ⌝ }
     ensures { λ _. ⌜ Filled (λ q. max (getD (now (next .entry)) (getD (now (targets .entry)) q 0) 0 - getD (now (costs .entry)) q 0) (getD (now (row .entry)) q 0)) states (now (row .entry)) (now (row .exit)) ⌝ }
 {
-    let mut q: usize = 0;
-    while q < states {
-        let room = rows::less(next[targets[q] as usize], costs[q] as u32);
-        row[q] = rows::greater(room, row[q]);
-        q += 1;
-    }
-}
-
-// A row cut at the limit of the step into it.
-pub(crate) fn cut(states: usize, cap: u32, row: &mut [u32])
-    requires { ⌜ states ≤ length (now row) ⌝ }
-    ensures { λ _. ⌜ Filled (λ q. min cap (getD (now (row .entry)) q 0)) states (now (row .entry)) (now (row .exit)) ⌝ }
-{
-    let mut q: usize = 0;
-    while q < states {
-        row[q] = lesser(cap, row[q]);
-        q += 1;
+    let mut q = State(0);
+    while (q.0 as usize) < states {
+        let at = q.0 as usize;
+        let room = rows::less(next[targets[at] as usize], costs[at] as u32);
+        row[at] = rows::greater(room, row[at]);
+        q = State(q.0 + 1);
     }
 }
 
@@ -77,16 +68,16 @@ pub(crate) fn fill_row(
     ensures { λ _. ⌜ Filled (λ q. min cap (best (turned (now (targets .entry)) (now (costs .entry))) (λ t. getD (now (next .entry)) t 0) q (choices values (mask .0)))) states (now (row .entry)) (now (row .exit)) ⌝ }
 {
     rows::blank(states, 0, row);
-    let mut v: u8 = 0;
-    while (v as usize) < values {
-        if mask.has(Value(v)) {
-            let at = (v as usize) * bounds::MOST_STATES;
+    let mut v = Value(0);
+    while (v.0 as usize) < values {
+        if mask.has(Value(v.0)) {
+            let at = turned_at(State(0), Value(v.0));
             let end = at + bounds::MOST_STATES;
             raise(states, &targets[at..end], &costs[at..end], next, row);
         }
-        v += 1;
+        v = Value(v.0 + 1);
     }
-    cut(states, cap, row);
+    rows::lower(states, 0, cap, row);
 }
 
 // One more than the limit of the step into layer i, 366,000 at most.
@@ -152,16 +143,16 @@ pub(crate) fn fill_last(
 pub const MOST_SPAN: usize = 8;
 
 // A state that has room, where there is one.
-pub(crate) fn roomy(states: usize, next: &[u32]) -> usize
+pub(crate) fn roomy(states: usize, next: &[u32]) -> State
     requires { ⌜ (states ≤ mostStates) × (states ≤ length (now next)) ⌝ }
-    ensures { λ r. ⌜ r < mostStates ⌝ }
+    ensures { λ r. ⌜ r .0 < mostStates ⌝ }
 {
-    let mut q: usize = 0;
-    while q + 1 < states {
-        if next[q] != 0 {
+    let mut q = State(0);
+    while (q.0 as usize) + 1 < states {
+        if next[q.0 as usize] != 0 {
             return q;
         }
-        q += 1;
+        q = State(q.0 + 1);
     }
     q
 }
@@ -170,7 +161,7 @@ pub(crate) fn roomy(states: usize, next: &[u32]) -> usize
 pub(crate) fn fall_from(states: usize, like: usize, next: &[u32], work: &[u32]) -> u32
     requires { ⌜ (states ≤ mostStates) × (length (now next) ≡ 256) × (like < mostPlaces) × ((like + 1) * mostStates + mostStates ≤ length (now work)) ⌝ }
 {
-    let q = roomy(states, next);
+    let q = roomy(states, next).0 as usize;
     let at = (like + 1) * bounds::MOST_STATES + q;
     rows::less(work[at], next[q])
 }
@@ -275,14 +266,14 @@ pub(crate) fn fill_rooms(
     accepting: u64,
     masks: &[u16],
     limits: &[u32],
-    next: &mut [u32],
     work: &mut [u32],
 )
-    requires { ⌜ Sizes states values (now targets) (now costs) (now masks) (now limits) (now work) × (length (now next) ≡ 256) × Loaded (λ t. 0) states (now next) ⌝ }
-    ensures { λ _. ⌜ Layers (frame (turned (now (targets .entry)) (now (costs .entry))) states values accepting) (now (masks .entry)) (now (limits .entry)) 0 (now (work .exit)) × Loaded (layer (frame (turned (now (targets .entry)) (now (costs .entry))) states values accepting) (now (masks .entry)) (now (limits .entry)) 0) states (now (next .exit)) ⌝ }
+    requires { ⌜ Sizes states values (now targets) (now costs) (now masks) (now limits) (now work) ⌝ }
+    ensures { λ _. ⌜ Layers (frame (turned (now (targets .entry)) (now (costs .entry))) states values accepting) (now (masks .entry)) (now (limits .entry)) 0 (now (work .exit)) × Outside states (suc (length (now (masks .entry)))) (now (work .entry)) (now (work .exit)) ⌝ }
 {
+    let mut next = [0u32; BYTES];
     let mut i = masks.len();
-    fill_last(states, accepting, cap_at(limits, i), i, next, work);
+    fill_last(states, accepting, cap_at(limits, i), i, &mut next, work);
     let mut span: usize = 1;
     while 0 < i {
         i -= 1;
@@ -295,13 +286,52 @@ pub(crate) fn fill_rooms(
             limits,
             i,
             span,
-            next,
+            &mut next,
             work,
         );
     }
 }
 
-// The whole backward pass: the tables turned, the rooms of all layers, and those of layer 0 loaded by themselves.
+// Whether all that is lent has its size.
+pub(crate) fn fits(
+    states: usize,
+    values: usize,
+    targets: &[u8],
+    costs: &[u16],
+    masks: &[u16],
+    limits: &[u32],
+    work: &[u32],
+) -> bool
+    ensures { λ r. ⌜ Fits states values (now (targets .entry)) (now (costs .entry)) (now (masks .entry)) (now (limits .entry)) (now (work .entry)) r ⌝ }
+{
+    if bounds::MOST_STATES < states {
+        return false;
+    }
+    if bounds::MOST_VALUES < values {
+        return false;
+    }
+    if targets.len() != bounds::TABLE_SIZE {
+        return false;
+    }
+    if costs.len() != bounds::TABLE_SIZE {
+        return false;
+    }
+    if masks.len() == 0 {
+        return false;
+    }
+    if bounds::MOST_PLACES < masks.len() {
+        return false;
+    }
+    if limits.len() != masks.len() {
+        return false;
+    }
+    if work.len() != (masks.len() + 1) * bounds::MOST_STATES {
+        return false;
+    }
+    true
+}
+
+// The whole backward pass: the tables turned, and the rooms of all layers. Where something lent has not its size, all stays.
 pub fn prepare(
     states: usize,
     values: usize,
@@ -312,23 +342,19 @@ pub fn prepare(
     limits: &[u32],
     to: &mut [u8],
     fee: &mut [u16],
-    next: &mut [u32],
     work: &mut [u32],
 )
-    requires { ⌜ Sizes states values (now targets) (now costs) (now masks) (now limits) (now work) × (length (now to) ≡ tableSize) × (length (now fee) ≡ tableSize) × (length (now next) ≡ 256) ⌝ }
-    ensures { λ _. ⌜ Prepared states values (now (targets .entry)) (now (costs .entry)) accepting (now (masks .entry)) (now (limits .entry)) (now (to .exit)) (now (fee .exit)) (now (next .exit)) (now (work .exit)) ⌝ }
+    ensures { λ _. ⌜ Prepares states values (now (targets .entry)) (now (costs .entry)) accepting (now (masks .entry)) (now (limits .entry)) (now (to .entry)) (now (fee .entry)) (now (work .entry)) (now (to .exit)) (now (fee .exit)) (now (work .exit)) ⌝ }
 {
+    if !fits(states, values, targets, costs, masks, limits, work) {
+        return;
+    }
+    if to.len() != bounds::TABLE_SIZE {
+        return;
+    }
+    if fee.len() != bounds::TABLE_SIZE {
+        return;
+    }
     turn::turn(states, values, targets, costs, to, fee);
-    rows::blank(BYTES, 0, next);
-    fill_rooms(
-        states,
-        values,
-        to,
-        fee,
-        accepting,
-        masks,
-        limits,
-        next,
-        work,
-    );
+    fill_rooms(states, values, to, fee, accepting, masks, limits, work);
 }

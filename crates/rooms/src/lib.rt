@@ -1,4 +1,4 @@
 // The backward pass: rows, the rule tables turned, and the rooms of all layers.
 pub mod backward;
 pub mod rows;
-mod turn;
+pub mod turn;

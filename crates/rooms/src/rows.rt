@@ -3,7 +3,7 @@ ghost use mathlib.Core.Path.{_≡_};
 ghost use Prim.Native.Nat.{_-_, _≤_, min, max};
 ghost use lib.ListN.{length, getD};
 ghost use Rattle.rules.specs.Answers.{zeros};
-ghost use Rattle.rooms.specs.Tables.{Filled, Matches};
+ghost use Rattle.rooms.specs.Tables.{blanked, copied, Filled, Matches};
 use rules::numbers::lesser;
 
 // The greater of two numbers.
@@ -20,11 +20,13 @@ pub fn less(a: u32, b: u32) -> u32
     if a < b { 0 } else { a - b }
 }
 
-// One number in the first places of a row.
+// One number in the first places of a row; a row that has fewer stays.
 pub fn blank(count: usize, number: u32, row: &mut [u32])
-    requires { ⌜ count ≤ length (now row) ⌝ }
-    ensures { λ _. ⌜ Filled (λ k. number) count (now (row .entry)) (now (row .exit)) ⌝ }
+    ensures { λ _. ⌜ now (row .exit) ≡ blanked count number (now (row .entry)) ⌝ }
 {
+    if row.len() < count {
+        return;
+    }
     let mut k: usize = 0;
     while k < count {
         row[k] = number;
@@ -32,11 +34,16 @@ pub fn blank(count: usize, number: u32, row: &mut [u32])
     }
 }
 
-// The first places of a row, as another has them.
+// The first places of a row, as another has them; where one of the two has fewer, the row stays.
 pub fn copy(count: usize, from: &[u32], row: &mut [u32])
-    requires { ⌜ (count ≤ length (now from)) × (count ≤ length (now row)) ⌝ }
-    ensures { λ _. ⌜ Filled (λ k. getD (now (from .entry)) k 0) count (now (row .entry)) (now (row .exit)) ⌝ }
+    ensures { λ _. ⌜ now (row .exit) ≡ copied count (now (from .entry)) (now (row .entry)) ⌝ }
 {
+    if from.len() < count {
+        return;
+    }
+    if row.len() < count {
+        return;
+    }
     let mut i: usize = 0;
     while i < count {
         row[i] = from[i];
@@ -64,10 +71,10 @@ pub(crate) fn lower(count: usize, fall: u32, cap: u32, row: &mut [u32])
     requires { ⌜ count ≤ length (now row) ⌝ }
     ensures { λ _. ⌜ Filled (λ k. min cap (getD (now (row .entry)) k 0 - fall)) count (now (row .entry)) (now (row .exit)) ⌝ }
 {
-    let mut q: usize = 0;
-    while q < count {
-        row[q] = lesser(cap, less(row[q], fall));
-        q += 1;
+    let mut n: usize = 0;
+    while n < count {
+        row[n] = lesser(cap, less(row[n], fall));
+        n += 1;
     }
 }
 

@@ -10,13 +10,19 @@ use Rattle.reach.proofs.forward.advance.Statement.{statement}
 use Rattle.reach.proofs.forward.advance.Tie as tie
 
 abbrev Inv-loop : tie.InvT-loop
-Inv-loop states onward next front₀ q₀ front q = (q ≤ states) × (length front ≡ length front₀) × Filled (λ (k : ℕ). struck (getD onward k 0) (getD next k 0)) q front₀ front
+Inv-loop states onward next front₀ q₀ front q = (q .0 ≤ states) × (length front ≡ length front₀) × Filled (λ (k : ℕ). struck (getD onward k 0) (getD next k 0)) (q .0) front₀ front
 
 abbrev μ-loop : tie.MeasureT-loop
-μ-loop states onward next front₀ q₀ front q = states - q
+μ-loop states onward next front₀ q₀ front q = states - q .0
 
 loop-holds : tie.Need-loop-holds Inv-loop μ-loop
 loop-holds c = (omega arith, refl, filled-none _ _)
+
+cast-if1 : tie.Need-cast-if1 Inv-loop μ-loop
+cast-if1 c = search needs
+
+cast-at : tie.Need-cast-at Inv-loop μ-loop
+cast-at c = search needs
 
 mul-strike : tie.Need-mul-strike Inv-loop μ-loop
 mul-strike c = search needs
@@ -39,20 +45,20 @@ mul-front c = search needs
 slice-write-front : tie.Need-slice-write-front Inv-loop μ-loop
 slice-write-front c = search needs
 
-add-q : tie.Need-add-q Inv-loop μ-loop
-add-q c = search needs
+add-t17 : tie.Need-add-t17 Inv-loop μ-loop
+add-t17 c = search needs
 
 loop-less : tie.Need-loop-less Inv-loop μ-loop
 loop-less c = search needs
 
 loop-again : tie.Need-loop-again Inv-loop μ-loop
-loop-again c = (omega arith, simp length-set (c .before .before .before .before .loop .inv .1), filled-more _ (omega arith) (c .before .before .before .before .loop .inv .2) (c .strike .ensures))
+loop-again c = (omega arith, simp length-set (c .before .before .before .before .before .before .before .loop .inv .1), filled-more _ (omega arith) (c .before .before .before .before .before .before .before .loop .inv .2) (c .before .strike .ensures))
 
 same-length : tie.Need-same-length Inv-loop μ-loop
-same-length c = c .before .loop .inv .1
+same-length c = c .before .before .loop .inv .1
 
 returns : tie.Need-returns Inv-loop μ-loop
-returns c = filled-end (c .before .loop .inv .2) (c .before .loop .inv .0) (c .loop-test .left)
+returns c = filled-end (c .before .before .loop .inv .2) (c .before .before .loop .inv .0) (c .if1 .left)
 
 pub advance-spec : {M : Type 1} → statement M
 advance-spec =
@@ -61,6 +67,8 @@ advance-spec =
     Inv-loop
     μ-loop
     loop-holds
+    cast-if1
+    cast-at
     mul-strike
     shared-slice-read-strike
     mul-strike-2
@@ -68,7 +76,7 @@ advance-spec =
     strike-requires
     mul-front
     slice-write-front
-    add-q
+    add-t17
     loop-less
     loop-again
     same-length

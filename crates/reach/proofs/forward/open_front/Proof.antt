@@ -1,3 +1,4 @@
+use Rattle.rooms.proofs.Filling.{blanked-filled}
 use Rattle.reach.proofs.Passing.{opened-is}
 use native.Mathlib.Omega.{arith}
 use borrow.Author.Needs.{needs}
@@ -26,7 +27,7 @@ same-length : tie.Need-same-length
 same-length c = search needs
 
 returns : tie.Need-returns
-returns c = opened-is (c .before .before .before .before .before .before .before .pre .0) (omega arith) (c .before .before .before .before .blank .ensures) (c .before .strike .ensures)
+returns c = opened-is (c .before .before .before .before .before .before .before .pre .0) (omega arith) (blanked-filled _ _ (omega arith) (c .before .before .before .before .blank .ensures)) (c .before .strike .ensures)
 
 pub open-front-spec : {M : Type 1} → statement M
 open-front-spec =

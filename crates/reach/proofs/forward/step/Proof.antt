@@ -1,8 +1,9 @@
-use native.Mathlib.Omega.{arith}
 use mathlib.Core.Path.{_∙_}
 use Rattle.reach.proofs.Living.{rooms-copied}
 use Rattle.reach.proofs.Passing.{stepped-is}
+use Rattle.rooms.proofs.Filling.{blanked-filled, copied-filled}
 use borrow.Author.Needs.{needs}
+use native.Mathlib.Omega.{arith}
 use Rattle.reach.proofs.forward.step.Statement.{statement}
 use Rattle.reach.proofs.forward.step.Tie as tie
 
@@ -11,7 +12,7 @@ copy-requires c κs = search needs
 
 keep-requires : tie.Need-keep-requires
 keep-requires c κs = let p = c .before .before .before .before .before .before .before .before .before .before .before .before .before .before .before .before .before .pre in
-    (p .1, p .2, p .3, p .4, p .9, c .before .before .before .before .before .copy .kept .1 .1 .0 ∙ p .10, p .12, p .16, rooms-copied (p .17) (p .18) (c .before .before .before .before .before .copy .ensures))
+    (p .1, p .2, p .3, p .4, p .9, c .before .before .before .before .before .copy .kept .1 .1 .0 ∙ p .10, p .12, p .16, rooms-copied (p .17) (p .18) (copied-filled _ _ (p .6) (omega (arith, p .1, p .10)) (c .before .before .before .before .before .copy .ensures)))
 
 spread-requires : tie.Need-spread-requires
 spread-requires c κs = let p = c .before .before .before .before .before .before .before .before .before .before .before .before .before .before .before .before .before .before .before .before .before .before .before .before .before .before .pre in
@@ -19,14 +20,13 @@ spread-requires c κs = let p = c .before .before .before .before .before .befor
 
 advance-requires : tie.Need-advance-requires
 advance-requires c κs = let p = c .before .before .before .before .before .before .before .before .before .before .before .before .before .before .before .before .before .before .before .before .before .before .before .before .before .before .before .before .before .before .before .before .before .before .before .before .before .before .pre in
-    (omega (arith, c .before .before .before .before .before .before .before .before .before .before .before .spread .kept .1 .1 .1 .1 .1 .1 .1 .1 .1 .0, p .1, p .11), omega (arith, c .before .before .before .before .before .before .before .before .before .before .before .before .before .before .before .before .before .before .before .before .before .before .before .before .before .before .copy .kept .1 .1 .0, p .1, p .10), p .9)
+    (p .1, omega (arith, c .before .before .before .before .before .before .before .before .before .before .before .spread .kept .1 .1 .1 .1 .1 .1 .1 .1 .1 .0, p .1, p .11), omega (arith, c .before .before .before .before .before .before .before .before .before .before .before .before .before .before .before .before .before .before .before .before .before .before .before .before .before .before .copy .kept .1 .1 .0, p .1, p .10), p .9)
 
 add-blank : tie.Need-add-blank
 add-blank c = search needs
 
 blank-requires : tie.Need-blank-requires
-blank-requires c κs = let p = c .before .before .before .before .before .before .before .before .before .before .before .before .before .before .before .before .before .before .before .before .before .before .before .before .before .before .before .before .before .before .before .before .before .before .before .before .before .before .before .before .before .before .pre in
-    omega (arith, c .before .before .before .before .before .before .before .before .before .before .before .before .before .before .before .spread .kept .1 .1 .1 .1 .1 .1 .1 .1 .1 .0, p .1, p .11)
+blank-requires c κs = search needs
 
 same-length : tie.Need-same-length
 same-length c = search needs
@@ -50,8 +50,9 @@ same-length-7 : tie.Need-same-length-7
 same-length-7 c = search needs
 
 returns : tie.Need-returns
-returns c = let s = c .before .before .before .before .before .before .before .before .before .before .before .before .before .before .before .before .before .before .spread .ensures in
-    (stepped-is (c .before .before .before .before .before .before .before .before .before .before .before .before .before .before .before .before .before .before .before .before .before .before .before .before .before .before .before .before .before .before .before .before .before .before .before .before .before .before .before .before .before .before .before .before .before .pre .19) (c .before .before .before .before .before .before .before .before .before .before .before .before .before .before .before .before .before .before .before .before .before .before .before .before .before .before .before .before .before .before .before .before .before .copy .ensures) (c .before .before .before .before .before .before .before .before .before .before .before .before .before .before .before .before .before .before .before .before .before .before .before .before .before .before .before .keep .ensures) (s .2) (c .before .before .before .before .before .before .advance .ensures) (c .before .before .blank .ensures), s .0, s .1, s .3)
+returns c = let p = c .before .before .before .before .before .before .before .before .before .before .before .before .before .before .before .before .before .before .before .before .before .before .before .before .before .before .before .before .before .before .before .before .before .before .before .before .before .before .before .before .before .before .before .before .before .pre in
+    let s = c .before .before .before .before .before .before .before .before .before .before .before .before .before .before .before .before .before .before .spread in
+    (stepped-is (p .19) (copied-filled _ _ (p .6) (omega (arith, p .1, p .10)) (c .before .before .before .before .before .before .before .before .before .before .before .before .before .before .before .before .before .before .before .before .before .before .before .before .before .before .before .before .before .before .before .before .before .copy .ensures)) (c .before .before .before .before .before .before .before .before .before .before .before .before .before .before .before .before .before .before .before .before .before .before .before .before .before .before .before .keep .ensures) (s .ensures .2) (c .before .before .before .before .before .before .advance .ensures) (blanked-filled _ _ (omega (arith, s .kept .1 .1 .1 .1 .1 .1 .1 .1 .1 .0, p .1, p .11)) (c .before .before .blank .ensures)), s .ensures .0, s .ensures .1, s .ensures .3)
 
 pub step-spec : {M : Type 1} → statement M
 step-spec =

@@ -18,8 +18,8 @@ abbrev μ-loop : tie.MeasureT-loop
 loop-holds : tie.Need-loop-holds Inv-loop μ-loop
 loop-holds c = (omega arith, looked-none _ _ _ _ _ _ (c .before .before .before .before .pre .6) (c .before .before .before .before .pre .7))
 
-cast-q : tie.Need-cast-q Inv-loop μ-loop
-cast-q c = omega (arith, looked-few _ _ _ _ _ (c .before .loop .inv .1) (omega arith) (omega arith))
+cast-t11 : tie.Need-cast-t11 Inv-loop μ-loop
+cast-t11 c = omega (arith, looked-few _ _ _ _ _ (c .before .loop .inv .1) (omega arith) (omega arith))
 
 joins-at-requires : tie.Need-joins-at-requires Inv-loop μ-loop
 joins-at-requires c κs = let h = looked-few _ _ _ _ _ (c .before .loop .inv .1) (omega arith) (omega arith) in
@@ -41,8 +41,8 @@ loop-again c = (
   looked-more _ _ _ _ _ _ (c .before .before .before .loop .inv .1) (omega arith) (omega arith) (c .before .joins-at .ensures) (c .if1 .left),
 )
 
-cast-t14 : tie.Need-cast-t14 Inv-loop μ-loop
-cast-t14 c = search needs
+cast-t15 : tie.Need-cast-t15 Inv-loop μ-loop
+cast-t15 c = search needs
 
 returns-2 : tie.Need-returns-2 Inv-loop μ-loop
 returns-2 c = let n = c .before .before .before .before .before .before .args .states in
@@ -55,11 +55,11 @@ support-spec =
     Inv-loop
     μ-loop
     loop-holds
-    cast-q
+    cast-t11
     joins-at-requires
     returns
     sub-left
     loop-less
     loop-again
-    cast-t14
+    cast-t15
     returns-2)

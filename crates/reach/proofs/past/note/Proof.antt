@@ -1,6 +1,6 @@
-use native.Mathlib.Omega.{arith}
 use mathlib.Core.Path.{refl}
-use Rattle.reach.proofs.Rising.{slotted-is}
+use Rattle.reach.proofs.Rising.{laid-copy}
+use native.Mathlib.Omega.{arith}
 use borrow.Author.Needs.{needs}
 use Rattle.reach.proofs.past.note.Statement.{statement}
 use Rattle.reach.proofs.past.note.Tie as tie
@@ -41,9 +41,6 @@ part-copy-end-2 c = search needs
 copy-requires-2 : tie.Need-copy-requires-2
 copy-requires-2 c κs = search needs
 
-cast-held : tie.Need-cast-held
-cast-held c = search needs
-
 mul-held : tie.Need-mul-held
 mul-held c = search needs
 
@@ -60,7 +57,9 @@ same-length-3 : tie.Need-same-length-3
 same-length-3 c = search needs
 
 returns : tie.Need-returns
-returns c = (slotted-is _ _ _ _ _ _ (c .before .before .before .before .before .before .before .before .before .before .before .before .before .before .pre .0) (omega arith) (c .before .before .before .before .before .before .before .copy .kept .1 .1 .0) (c .before .before .before .before .before .before .before .copy .ensures), slotted-is _ _ _ _ _ _ (c .before .before .before .before .before .before .before .before .before .before .before .before .before .before .pre .0) (omega arith) (c .before .before .before .copy2 .kept .1 .1 .0) (c .before .before .before .copy2 .ensures), refl)
+returns c = let p = c .before .before .before .before .before .before .before .before .before .before .before .before .before .pre in
+    let a = c .before .before .before .before .before .before .before .before .before .before .before .before .before .args in
+    (laid-copy (a .slot) (a .front .now) (a .fronts .now) (p .0) (p .2) (omega arith) (c .before .before .before .before .before .before .copy .kept .1 .1 .0) (c .before .before .before .before .before .before .copy .ensures), laid-copy (a .slot) (a .onward .now) (a .onwards .now) (p .0) (p .3) (omega arith) (c .before .before .copy2 .kept .1 .1 .0) (c .before .before .copy2 .ensures), refl)
 
 pub note-spec : {M : Type 1} → statement M
 note-spec =
@@ -78,7 +77,6 @@ note-spec =
     part-copy-start-2
     part-copy-end-2
     copy-requires-2
-    cast-held
     mul-held
     slice-write-held
     same-length

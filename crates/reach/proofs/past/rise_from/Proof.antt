@@ -6,6 +6,9 @@ use Rattle.reach.proofs.past.rise_from.Tie as tie
 alive-requires : tie.Need-alive-requires
 alive-requires c κs = search needs
 
+cast-q : tie.Need-cast-q
+cast-q c = search needs
+
 mul-at : tie.Need-mul-at
 mul-at c = search needs
 
@@ -28,13 +31,14 @@ less-requires : tie.Need-less-requires
 less-requires c κs = search needs
 
 returns : tie.Need-returns
-returns c = omega (arith, c .less .ensures, c .before .before .before .before .before .before .pre .5 .low (c .before .before .before .alive .result) (c .before .before .before .alive .ensures))
+returns c = omega (arith, c .less .ensures, c .before .before .before .before .before .before .before .pre .5 .low (c .before .before .before .before .alive .result .0) (c .before .before .before .before .alive .ensures))
 
 pub rise-from-spec : {M : Type 1} → statement M
 rise-from-spec =
     tie.close
     (tie.spec
     alive-requires
+    cast-q
     mul-at
     add-at
     mul-less

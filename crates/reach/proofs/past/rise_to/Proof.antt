@@ -1,6 +1,6 @@
-use native.Mathlib.Omega.{arith}
 use lib.ListN.{length-take, length-drop}
 use Rattle.reach.proofs.Rising.{known-not, known-is, slot-low}
+use native.Mathlib.Omega.{arith}
 use borrow.Author.Needs.{needs}
 use Rattle.reach.proofs.past.rise_to.Statement.{statement}
 use Rattle.reach.proofs.past.rise_to.Tie as tie
@@ -16,9 +16,6 @@ mul-if2 c = search needs
 
 shared-slice-read-if2 : tie.Need-shared-slice-read-if2
 shared-slice-read-if2 c = search needs
-
-cast-if2 : tie.Need-cast-if2
-cast-if2 c = search needs
 
 add-result-2 : tie.Need-add-result-2
 add-result-2 c = search needs
@@ -48,11 +45,11 @@ part-risen-end : tie.Need-part-risen-end
 part-risen-end c = search needs
 
 risen-requires : tie.Need-risen-requires
-risen-requires c κs = let p = c .before .before .before .before .before .before .before .before .before .before .pre in
+risen-requires c κs = let p = c .before .before .before .before .before .before .before .before .before .before .before .pre in
     (simp (length-take, length-drop) (omega arith), p .3, c .before .rise-from .ensures, slot-low (p .1) (p .2) (omega (arith, c .before .before .before .before .before .if1 .left, c .before .before .if2 .left)) (p .7))
 
 returns-3 : tie.Need-returns-3
-returns-3 c = known-is (c .before .before .before .before .before .before .before .before .before .before .before .before .pre .1) (c .before .before .before .before .before .before .before .if1 .left) (c .before .before .before .before .if2 .left) (c .before .risen .ensures) (c .if3 .taken)
+returns-3 c = known-is (c .before .before .before .before .before .before .before .before .before .before .before .before .before .pre .1) (c .before .before .before .before .before .before .before .if1 .left) (c .before .before .before .before .if2 .left) (c .before .risen .ensures) (c .if3 .taken)
 
 add-result-3 : tie.Need-add-result-3
 add-result-3 c = search needs
@@ -68,7 +65,6 @@ rise-to-spec =
     returns
     mul-if2
     shared-slice-read-if2
-    cast-if2
     add-result-2
     returns-2
     rise-from-requires

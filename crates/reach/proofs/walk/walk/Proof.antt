@@ -1,43 +1,46 @@
 use Prim.Native.Nat.{_≤_, _-_, _+_, _*_}
-use mathlib.Core.Path.{_≡_, sym, _∙_, ap}
+use mathlib.Core.Path.{_≡_, refl, sym, _∙_}
 use mathlib.Core.Logic.{⊎-elim}
-use lib.ListN.{length, length-set, length-take, length-drop}
+use lib.ListN.{length, length-set}
 use Rattle.meaning.specs.Bounds.{top}
 use Rattle.rooms.specs.Tables.{turned}
 use Rattle.reach.proofs.Walking.{Tried, Walking, walking-starts, walking-more, walks-none, walks-some, tried-none, tried-more, turned-to, turned-fee}
+use lib.ListN.{getD}
+use Rattle.rooms.proofs.Filling.{part-copied}
+use Rattle.rooms.proofs.Layering.{loaded-none}
 use borrow.Author.Needs.{needs}
 use native.Mathlib.Omega.{arith}
 use Rattle.reach.proofs.walk.walk.Statement.{statement}
 use Rattle.reach.proofs.walk.walk.Tie as tie
 
 abbrev Inv-loop : tie.InvT-loop
-Inv-loop states values targets costs spent masks work next roster q cost i row end mask v₀ v = (v ≤ values) × Tried (turned targets costs) next mask q cost v
+Inv-loop states values targets costs spent masks work roster next q cost i row end v₀ v = (v .0 ≤ values) × Tried (turned targets costs) next (getD masks i 0) (q .0) cost (v .0)
 
 abbrev μ-loop : tie.MeasureT-loop
-μ-loop states values targets costs spent masks work next roster q cost i row end mask v₀ v = values - v
+μ-loop states values targets costs spent masks work roster next q cost i row end v₀ v = values - v .0
 
 abbrev Inv-places : tie.InvT-places
-Inv-places states values targets costs spent masks work next₀ roster₀ q₀ cost₀ i₀ next roster q cost i = (i ≤ length masks) × (length next ≡ 256) × (length roster ≡ length masks) × Walking (turned targets costs) states values q₀ cost₀ masks work roster₀ roster next q cost i
+Inv-places states values targets costs spent masks work roster₀ next₀ q₀ cost₀ i₀ roster next q cost i = (i ≤ length masks) × (length next ≡ 256) × (length roster ≡ length masks) × Walking (turned targets costs) states values (q₀ .0) cost₀ masks work roster₀ roster next (q .0) cost i
 
 abbrev μ-places : tie.MeasureT-places
-μ-places states values targets costs spent masks work next₀ roster₀ q₀ cost₀ i₀ next roster q cost i = length masks - i
+μ-places states values targets costs spent masks work roster₀ next₀ q₀ cost₀ i₀ roster next q cost i = length masks - i
 
 places-holds : tie.Need-places-holds Inv-loop μ-loop Inv-places μ-places
-places-holds c = let p = c .before .before .before .before .before .before .pre in
-    let a = c .before .before .before .before .before .before .args in
-    (omega arith, p .4, p .5, walking-starts (turned (a .targets .now) (a .costs .now)) (a .states) (a .values) (a .start .0) (a .spent) (a .masks .now) (a .work .now) (a .roster .now) (a .next .now) (p .2) (p .3) (p .6))
+places-holds c = let p = c .before .before .before .before .before .pre in
+    let a = c .before .before .before .before .before .args in
+    (omega arith, refl, p .4, walking-starts (turned (a .targets .now) (a .costs .now)) (a .states) (a .values) (a .start .0) (a .spent) (a .masks .now) (a .work .now) (a .roster .now) _ (p .2) (p .3) (loaded-none (a .states)))
 
 add-row : tie.Need-add-row Inv-loop μ-loop Inv-places μ-places
-add-row c = omega (arith, c .before .before .before .before .before .before .before .before .pre .0 .few-places)
+add-row c = omega (arith, c .before .before .before .before .before .before .before .pre .0 .few-places)
 
 mul-row : tie.Need-mul-row Inv-loop μ-loop Inv-places μ-places
-mul-row c = omega (arith, c .before .before .before .before .before .before .before .before .pre .0 .few-places)
+mul-row c = omega (arith, c .before .before .before .before .before .before .before .pre .0 .few-places)
 
 add-end : tie.Need-add-end Inv-loop μ-loop Inv-places μ-places
-add-end c = omega (arith, c .before .before .before .before .before .before .before .before .pre .0 .few-places)
+add-end c = omega (arith, c .before .before .before .before .before .before .before .pre .0 .few-places)
 
 mul-copy : tie.Need-mul-copy Inv-loop μ-loop Inv-places μ-places
-mul-copy c = omega (arith, c .before .before .before .before .before .before .before .before .pre .0 .few-places)
+mul-copy c = omega (arith, c .before .before .before .before .before .before .before .pre .0 .few-places)
 
 sub-copy : tie.Need-sub-copy Inv-loop μ-loop Inv-places μ-places
 sub-copy c = search needs
@@ -46,68 +49,64 @@ part-copy-start : tie.Need-part-copy-start Inv-loop μ-loop Inv-places μ-places
 part-copy-start c = search needs
 
 part-copy-end : tie.Need-part-copy-end Inv-loop μ-loop Inv-places μ-places
-part-copy-end c = omega (arith, c .before .before .before .before .before .before .before .before .pre .0 .all-work)
+part-copy-end c = omega (arith, c .before .before .before .before .before .before .before .pre .0 .all-work)
+
+slice-aggregate-copy : tie.Need-slice-aggregate-copy Inv-loop μ-loop Inv-places μ-places
+slice-aggregate-copy c = sym (c .before .before .before .places .inv .1)
 
 copy-requires : tie.Need-copy-requires Inv-loop μ-loop Inv-places μ-places
-copy-requires c κs = let p = c .before .before .before .before .before .before .before .before .before .before .pre .0 in
-    (simp (length-take, length-drop) (omega (arith, p .few-states, p .all-work)), omega (arith, p .few-states, c .before .before .before .places .inv .1))
-
-mul-mask : tie.Need-mul-mask Inv-loop μ-loop Inv-places μ-places
-mul-mask c = search needs
-
-shared-slice-read-mask : tie.Need-shared-slice-read-mask Inv-loop μ-loop Inv-places μ-places
-shared-slice-read-mask c = search needs
+copy-requires c κs = search needs
 
 loop-holds : tie.Need-loop-holds Inv-loop μ-loop Inv-places μ-places
 loop-holds c = (omega arith, tried-none _ _ _ _ _)
 
-cast-loop : tie.Need-cast-loop Inv-loop μ-loop Inv-places μ-places
-cast-loop c = omega (arith, c .before .before .before .before .before .before .before .before .before .before .before .before .before .before .before .pre .0 .few-values)
+cast-if1 : tie.Need-cast-if1 Inv-loop μ-loop Inv-places μ-places
+cast-if1 c = search needs
+
+slice-aggregate-takeable : tie.Need-slice-aggregate-takeable Inv-loop μ-loop Inv-places μ-places
+slice-aggregate-takeable c = sym (c .before .before .before .before .before .copy .kept .1 .1 .0 ∙ c .before .before .before .before .before .before .before .before .before .places .inv .1)
+
+mul-t29 : tie.Need-mul-t29 Inv-loop μ-loop Inv-places μ-places
+mul-t29 c = search needs
+
+shared-slice-read-t35 : tie.Need-shared-slice-read-t35 Inv-loop μ-loop Inv-places μ-places
+shared-slice-read-t35 c = search needs
 
 takeable-requires : tie.Need-takeable-requires Inv-loop μ-loop Inv-places μ-places
-takeable-requires c κs = let p = c .before .before .before .before .before .before .before .before .before .before .before .before .before .before .before .before .before .pre .0 in
+takeable-requires c κs = let p = c .before .before .before .before .before .before .before .before .before .before .before .before .before .before .before .before .pre .0 in
     let w = c .before .before .before .before .before .before .before .before .before .before .places .inv .3 in
     (p .all-targets, p .all-costs, c .before .before .before .before .before .before .copy .kept .1 .1 .0 ∙ c .before .before .before .before .before .before .before .before .before .before .places .inv .1, omega (arith, w .state, p .few-states), w .low, omega (arith, p .few-values))
 
-add-v : tie.Need-add-v Inv-loop μ-loop Inv-places μ-places
-add-v c = omega (arith, c .before .before .before .before .before .before .before .before .before .before .before .before .before .before .before .before .before .before .before .pre .0 .few-values)
+add-t39 : tie.Need-add-t39 Inv-loop μ-loop Inv-places μ-places
+add-t39 c = omega (arith, c .before .before .before .before .before .before .before .before .before .before .before .before .before .before .before .before .before .before .before .pre .0 .few-values)
 
 loop-less : tie.Need-loop-less Inv-loop μ-loop Inv-places μ-places
 loop-less c = search needs
 
 loop-again : tie.Need-loop-again Inv-loop μ-loop Inv-places μ-places
-loop-again c = (omega arith, tried-more _ _ _ _ _ _ (c .before .before .before .before .loop .inv .1) (c .before .takeable .ensures) (c .if1 .left))
+loop-again c = (omega arith, tried-more _ _ _ _ _ _ (c .before .before .before .before .before .before .before .loop .inv .1) (c .before .before .takeable .ensures) (c .before .if2 .left))
 
 slice-write-roster : tie.Need-slice-write-roster Inv-loop μ-loop Inv-places μ-places
 slice-write-roster c = search needs
 
-cast-at : tie.Need-cast-at Inv-loop μ-loop Inv-places μ-places
-cast-at c = omega (arith, c .before .before .before .before .before .before .before .before .before .before .before .before .before .before .before .before .before .before .before .pre .0 .few-values)
-
-mul-at : tie.Need-mul-at Inv-loop μ-loop Inv-places μ-places
-mul-at c = omega (arith, c .before .before .before .before .before .before .before .before .before .before .before .before .before .before .before .before .before .before .before .pre .0 .few-values)
-
-cast-at-2 : tie.Need-cast-at-2 Inv-loop μ-loop Inv-places μ-places
-cast-at-2 c = omega (arith, c .before .before .before .before .before .before .before .before .before .before .before .before .places .inv .3 .state, c .before .before .before .before .before .before .before .before .before .before .before .before .before .before .before .before .before .before .before .pre .0 .few-states)
-
-add-at : tie.Need-add-at Inv-loop μ-loop Inv-places μ-places
-add-at c = omega (arith, c .before .before .before .before .before .before .before .before .before .before .before .before .before .before .before .before .before .before .before .pre .0 .few-values, c .before .before .before .before .before .before .before .before .before .before .before .before .places .inv .3 .state, c .before .before .before .before .before .before .before .before .before .before .before .before .before .before .before .before .before .before .before .pre .0 .few-states)
+turned-at-requires : tie.Need-turned-at-requires Inv-loop μ-loop Inv-places μ-places
+turned-at-requires c κs = search needs
 
 mul-cost : tie.Need-mul-cost Inv-loop μ-loop Inv-places μ-places
-mul-cost c = omega (arith, c .before .before .before .before .before .before .before .before .before .before .before .before .before .before .before .before .before .before .before .pre .0 .few-values, c .before .before .before .before .before .before .before .before .before .before .before .before .places .inv .3 .state, c .before .before .before .before .before .before .before .before .before .before .before .before .before .before .before .before .before .before .before .pre .0 .few-states)
+mul-cost c = omega (arith, c .turned-at .ensures, c .before .before .before .before .before .before .before .before .before .before .before .before .before .before .before .before .before .before .before .pre .0 .few-values, c .before .before .before .before .before .before .before .before .before .before .before .before .before .places .inv .3 .state, c .before .before .before .before .before .before .before .before .before .before .before .before .before .before .before .before .before .before .before .pre .0 .few-states)
 
 shared-slice-read-cost : tie.Need-shared-slice-read-cost Inv-loop μ-loop Inv-places μ-places
-shared-slice-read-cost c = omega (arith, c .before .before .before .before .before .before .before .before .before .before .before .before .before .before .before .before .before .before .before .before .pre .0 .few-values, c .before .before .before .before .before .before .before .before .before .before .before .before .before .places .inv .3 .state, c .before .before .before .before .before .before .before .before .before .before .before .before .before .before .before .before .before .before .before .before .pre .0 .few-states, c .before .before .before .before .before .before .before .before .before .before .before .before .before .before .before .before .before .before .before .before .pre .0 .all-costs)
+shared-slice-read-cost c = omega (arith, c .before .turned-at .ensures, c .before .before .before .before .before .before .before .before .before .before .before .before .before .before .before .before .before .before .before .before .pre .0 .few-values, c .before .before .before .before .before .before .before .before .before .before .before .before .before .before .places .inv .3 .state, c .before .before .before .before .before .before .before .before .before .before .before .before .before .before .before .before .before .before .before .before .pre .0 .few-states, c .before .before .before .before .before .before .before .before .before .before .before .before .before .before .before .before .before .before .before .before .pre .0 .all-costs)
 
 cast-cost : tie.Need-cast-cost Inv-loop μ-loop Inv-places μ-places
-cast-cost c = omega (arith, c .shared-slice-known6 .given (c .before .before .before .before .before .loop .v * 64 + c .before .before .before .before .before .before .before .before .before .before .before .before .before .places .q))
+cast-cost c = omega (arith, c .shared-slice-known6 .given (c .before .turned-at .result))
 
 add-cost : tie.Need-add-cost Inv-loop μ-loop Inv-places μ-places
 unfolding top
-add-cost c = omega (arith, c .shared-slice-known6 .given (c .before .before .before .before .before .loop .v * 64 + c .before .before .before .before .before .before .before .before .before .before .before .before .before .places .q), c .before .before .before .before .before .before .before .before .before .before .before .before .before .places .inv .3 .low)
+add-cost c = omega (arith, c .shared-slice-known6 .given (c .before .turned-at .result), c .before .before .before .before .before .before .before .before .before .before .before .before .before .before .places .inv .3 .low)
 
-shared-slice-read-q : tie.Need-shared-slice-read-q Inv-loop μ-loop Inv-places μ-places
-shared-slice-read-q c = omega (arith, c .before .before .before .before .before .before .before .before .before .before .before .before .before .before .before .before .before .before .before .before .before .pre .0 .few-values, c .before .before .before .before .before .before .before .before .before .before .before .before .before .before .places .inv .3 .state, c .before .before .before .before .before .before .before .before .before .before .before .before .before .before .before .before .before .before .before .before .before .pre .0 .few-states, c .before .before .before .before .before .before .before .before .before .before .before .before .before .before .before .before .before .before .before .before .before .pre .0 .all-targets)
+shared-slice-read-t45 : tie.Need-shared-slice-read-t45 Inv-loop μ-loop Inv-places μ-places
+shared-slice-read-t45 c = omega (arith, c .before .before .turned-at .ensures, c .before .before .before .before .before .before .before .before .before .before .before .before .before .before .before .before .before .before .before .before .before .pre .0 .few-values, c .before .before .before .before .before .before .before .before .before .before .before .before .before .before .before .places .inv .3 .state, c .before .before .before .before .before .before .before .before .before .before .before .before .before .before .before .before .before .before .before .before .before .pre .0 .few-states, c .before .before .before .before .before .before .before .before .before .before .before .before .before .before .before .before .before .before .before .before .before .pre .0 .all-targets)
 
 add-i : tie.Need-add-i Inv-loop μ-loop Inv-places μ-places
 add-i c = omega (arith, c .before .before .before .before .before .before .before .before .before .before .before .before .before .before .before .before .before .before .before .before .before .pre .0 .few-places)
@@ -118,31 +117,28 @@ places-less c = search needs
 places-again : tie.Need-places-again Inv-loop μ-loop Inv-places μ-places
 places-again c = let p = c .before .before .before .before .before .before .before .before .before .before .before .before .before .before .before .before .before .before .before .before .before .pre in
     let a = c .before .before .before .before .before .before .before .before .before .before .before .before .before .before .before .before .before .before .before .before .before .args in
-    let o = c .before .before .before .before .before .before .before .before .before .before .before .before .before .before .places in (
+    let o = c .before .before .before .before .before .before .before .before .before .before .before .before .before .before .before .places in
+    let e = c .before .before .turned-at .ensures in (
       omega arith,
-      c .before .before .before .before .before .before .before .before .before .before .copy .kept .1 .1 .0 ∙ o .inv .1,
+      c .before .before .before .before .before .before .before .before .before .before .before .copy .kept .1 .1 .0 ∙ o .inv .1,
       simp length-set (o .inv .2),
-      walking-more (turned (a .targets .now) (a .costs .now)) (a .states) (a .values) (a .start .0) (a .spent) (a .masks .now) (a .work .now) (a .roster .now) (o .roster) (o .next) _ (o .q) (o .cost) (o .i) (c .before .before .before .before .before .before .loop .v)
-          (p .0 .few-states) (c .before .before .before .before .before .before .before .before .before .before .before .before .before .places-test .taken) (o .inv .2) (p .1) (o .inv .3) (c .before .before .before .before .before .before .before .before .before .before .copy .ensures) (c .before .before .before .before .before .before .loop .inv .1) (c .before .before .before .before .before .loop-test .left) (c .before .before .before .takeable .ensures) (c .before .before .if1 .taken)
-          (turned-to (a .targets .now) (a .costs .now) (o .q) (c .before .before .before .before .before .before .loop .v)) (turned-fee (a .targets .now) (a .costs .now) (o .q) (o .cost) (c .before .before .before .before .before .before .loop .v)),
+      walking-more (turned (a .targets .now) (a .costs .now)) (a .states) (a .values) (a .start .0) (a .spent) (a .masks .now) (a .work .now) (a .roster .now) (o .roster) (o .next) _ (o .q .0) (o .cost) (o .i) (c .before .before .before .before .before .before .before .before .before .loop .v .0)
+          (p .0 .few-states) (c .before .before .before .before .before .before .before .before .before .before .before .before .before .before .places-test .taken) (o .inv .2) (p .1) (o .inv .3) (part-copied ((o .i + 1) * 64) (a .work .now) (p .0 .few-states) (omega (arith, p .0 .all-work)) (omega (arith, o .inv .1, p .0 .few-states)) (c .before .before .before .before .before .before .before .before .before .before .before .copy .ensures)) (c .before .before .before .before .before .before .before .before .before .loop .inv .1) (c .before .before .before .before .before .before .before .if1 .left) (c .before .before .before .before .takeable .ensures) (c .before .before .before .if2 .taken)
+          (turned-to (a .targets .now) (a .costs .now) (o .q .0) (c .before .before .before .before .before .before .before .before .before .loop .v .0) e) (turned-fee (a .targets .now) (a .costs .now) (o .q .0) (o .cost) (c .before .before .before .before .before .before .before .before .before .loop .v .0) e),
     )
 
 same-length : tie.Need-same-length Inv-loop μ-loop Inv-places μ-places
-same-length c = ⊎-elim (λ w. ap length (w .1) ∙ (c .before .places .inv .1 ∙ sym (c .before .before .before .before .before .before .before .before .pre .4)))
-    (λ w. ap length (w .9) ∙ (w .3 .kept .1 .1 .0 ∙ (c .before .places .inv .1 ∙ sym (c .before .before .before .before .before .before .before .before .pre .4)))) (c .places-test .came)
-
-same-length-2 : tie.Need-same-length-2 Inv-loop μ-loop Inv-places μ-places
-same-length-2 c = c .before .places .inv .2 ∙ sym (c .before .before .before .before .before .before .before .before .pre .5)
+same-length c = c .before .places .inv .2 ∙ sym (c .before .before .before .before .before .before .before .pre .4)
 
 returns : tie.Need-returns Inv-loop μ-loop Inv-places μ-places
-returns c = let p = c .before .before .before .before .before .before .before .before .pre in
-    let a = c .before .before .before .before .before .before .before .before .args in
+returns c = let p = c .before .before .before .before .before .before .before .pre in
+    let a = c .before .before .before .before .before .before .before .args in
     let o = c .before .places in
     ⊎-elim
-    (λ w. walks-some (turned (a .targets .now) (a .costs .now)) (a .states) (a .values) (a .start .0) (a .spent) (a .masks .now) (a .work .now) (a .roster .now) (o .roster) (o .next) (o .q) (o .cost) (o .i)
-    (p .0 .some-places) (o .inv .0) (w .0 .left) (o .inv .2) (o .inv .3))
-    (λ w. walks-none (turned (a .targets .now) (a .costs .now)) (a .states) (a .values) (a .start .0) (a .spent) (a .masks .now) (a .work .now) (a .roster .now) (o .roster) (o .next) _ (o .q) (o .cost) (o .i) (w .7 .v)
-    (p .0 .few-states) (w .0 .taken) (o .inv .2) (p .1) (o .inv .3) (w .3 .ensures) (w .7 .inv .1) (w .8 .taken))
+    (λ w. walks-some (turned (a .targets .now) (a .costs .now)) (a .states) (a .values) (a .start .0) (a .spent) (a .masks .now) (a .work .now) (a .roster .now) (o .roster) (o .next) (o .q .0) (o .cost) (o .i)
+    (p .0 .some-places) (o .inv .0) (w .left) (o .inv .2) (o .inv .3))
+    (λ w. walks-none (turned (a .targets .now) (a .costs .now)) (a .states) (a .values) (a .start .0) (a .spent) (a .masks .now) (a .work .now) (a .roster .now) (o .roster) (o .next) _ (o .q .0) (o .cost) (o .i) (w .5 .v .0)
+    (p .0 .few-states) (w .0 .taken) (o .inv .2) (p .1) (o .inv .3) (part-copied ((o .i + 1) * 64) (a .work .now) (p .0 .few-states) (omega (arith, p .0 .all-work)) (omega (arith, o .inv .1, p .0 .few-states)) (w .3 .ensures)) (w .5 .inv .1) (w .7 .taken))
     (c .places-test .came)
 
 pub walk-spec : {M : Type 1} → statement M
@@ -161,28 +157,26 @@ walk-spec =
     sub-copy
     part-copy-start
     part-copy-end
+    slice-aggregate-copy
     copy-requires
-    mul-mask
-    shared-slice-read-mask
     loop-holds
-    cast-loop
+    cast-if1
+    slice-aggregate-takeable
+    mul-t29
+    shared-slice-read-t35
     takeable-requires
-    add-v
+    add-t39
     loop-less
     loop-again
     slice-write-roster
-    cast-at
-    mul-at
-    cast-at-2
-    add-at
+    turned-at-requires
     mul-cost
     shared-slice-read-cost
     cast-cost
     add-cost
-    shared-slice-read-q
+    shared-slice-read-t45
     add-i
     places-less
     places-again
     same-length
-    same-length-2
     returns)

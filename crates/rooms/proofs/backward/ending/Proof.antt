@@ -3,6 +3,9 @@ use borrow.Author.Needs.{needs}
 use Rattle.rooms.proofs.backward.ending.Statement.{statement}
 use Rattle.rooms.proofs.backward.ending.Tie as tie
 
+cast-if1 : tie.Need-cast-if1
+cast-if1 c = search needs
+
 shr-if1 : tie.Need-shr-if1
 shr-if1 c = search needs
 
@@ -13,4 +16,4 @@ returns-2 : tie.Need-returns-2
 returns-2 c = rw (bit-no _ _ (c .if1 .left))
 
 pub ending-spec : {M : Type 1} → statement M
-ending-spec = tie.close (tie.spec shr-if1 returns returns-2)
+ending-spec = tie.close (tie.spec cast-if1 shr-if1 returns returns-2)

@@ -11,16 +11,22 @@ use Rattle.rooms.proofs.backward.ends.Statement.{statement}
 use Rattle.rooms.proofs.backward.ends.Tie as tie
 
 abbrev Inv-loop : tie.InvT-loop
-Inv-loop states accepting cap row₀ q₀ row q = (q ≤ states) × (length row ≡ length row₀) × Filled (λ (k : ℕ). cond (bit accepting k) cap 0) q row₀ row
+Inv-loop states accepting cap row₀ q₀ row q = (q .0 ≤ states) × (length row ≡ length row₀) × Filled (λ (k : ℕ). cond (bit accepting k) cap 0) (q .0) row₀ row
 
 abbrev μ-loop : tie.MeasureT-loop
-μ-loop states accepting cap row₀ q₀ row q = states - q
+μ-loop states accepting cap row₀ q₀ row q = states - q .0
 
 loop-holds : tie.Need-loop-holds Inv-loop μ-loop
 loop-holds c = (omega arith, refl, filled-none _ _)
 
+cast-if1 : tie.Need-cast-if1 Inv-loop μ-loop
+cast-if1 c = search needs
+
 ending-requires : tie.Need-ending-requires Inv-loop μ-loop
 ending-requires c κs = search needs
+
+cast-row : tie.Need-cast-row Inv-loop μ-loop
+cast-row c = search needs
 
 mul-row : tie.Need-mul-row Inv-loop μ-loop
 mul-row c = search needs
@@ -28,20 +34,20 @@ mul-row c = search needs
 slice-write-row : tie.Need-slice-write-row Inv-loop μ-loop
 slice-write-row c = search needs
 
-add-q : tie.Need-add-q Inv-loop μ-loop
-add-q c = search needs
+add-t12 : tie.Need-add-t12 Inv-loop μ-loop
+add-t12 c = search needs
 
 loop-less : tie.Need-loop-less Inv-loop μ-loop
 loop-less c = search needs
 
 loop-again : tie.Need-loop-again Inv-loop μ-loop
-loop-again c = (omega arith, simp length-set (c .before .before .loop .inv .1), filled-more _ (omega arith) (c .before .before .loop .inv .2) (c .ending .ensures))
+loop-again c = (omega arith, simp length-set (c .before .before .before .before .before .loop .inv .1), filled-more _ (omega arith) (c .before .before .before .before .before .loop .inv .2) (c .before .before .ending .ensures))
 
 same-length : tie.Need-same-length Inv-loop μ-loop
-same-length c = c .before .loop .inv .1
+same-length c = c .before .before .loop .inv .1
 
 returns : tie.Need-returns Inv-loop μ-loop
-returns c = filled-end (c .before .loop .inv .2) (c .before .loop .inv .0) (c .loop-test .left)
+returns c = filled-end (c .before .before .loop .inv .2) (c .before .before .loop .inv .0) (c .if1 .left)
 
 pub ends-spec : {M : Type 1} → statement M
 ends-spec =
@@ -50,10 +56,12 @@ ends-spec =
     Inv-loop
     μ-loop
     loop-holds
+    cast-if1
     ending-requires
+    cast-row
     mul-row
     slice-write-row
-    add-q
+    add-t12
     loop-less
     loop-again
     same-length

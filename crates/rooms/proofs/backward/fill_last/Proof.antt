@@ -1,4 +1,5 @@
 use Rattle.rooms.proofs.Layering.{laid-row}
+use native.Mathlib.Omega.{arith}
 use borrow.Author.Needs.{needs}
 use Rattle.rooms.proofs.backward.fill_last.Statement.{statement}
 use Rattle.rooms.proofs.backward.fill_last.Tie as tie
@@ -46,7 +47,7 @@ same-length-2 : tie.Need-same-length-2
 same-length-2 c = search needs
 
 returns : tie.Need-returns
-returns c = laid-row _ _ _ _ _ _ _ _ (c .before .before .before .before .before .before .before .before .before .before .before .before .pre .0) (c .before .before .before .before .before .before .before .before .before .before .before .before .pre .3) (c .before .before .before .before .before .before .before .before .ends .kept .1 .1 .1 .0) (c .before .before .before .before .before .before .before .before .ends .ensures) (c .before .before .copy .ensures)
+returns c = laid-row _ _ (c .before .before .before .before .before .before .before .before .before .before .before .before .pre .0) (c .before .before .before .before .before .before .before .before .before .before .before .before .pre .3) (c .before .before .before .before .before .before .before .before .ends .kept .1 .1 .1 .0) (c .before .before .before .before .before .before .before .before .ends .ensures) (omega (arith, c .before .before .before .before .before .before .before .before .before .before .before .before .pre .0, c .before .before .before .before .before .before .before .before .before .before .before .before .pre .1)) (c .before .before .copy .ensures)
 
 pub fill-last-spec : {M : Type 1} → statement M
 fill-last-spec =

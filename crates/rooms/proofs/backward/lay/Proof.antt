@@ -29,7 +29,7 @@ same-length-2 c = search needs
 
 returns : tie.Need-returns
 returns c = let a = c .before .before .before .before .before .before .before .before .before .before .before .before .before .before .before .before .before .before .before .args in
-    (c .before .before .before .before .before .before .before .before .before .before .before .before .before .before .before .before .before .before .before .pre .2, c .before .before .before .before .before .before .before .before .before .before .before .before .before .before .before .before .before .before .before .pre .3, lays-like _ (a .states) (a .values) (a .masks .now) (a .limits .now) (a .i) (a .i + a .span) _ _ _ _ _ _ (c .before .before .before .before .before .before .before .before .before .before .before .before .before .before .before .before .before .before .before .pre .0 .all-limits) (omega (arith, c .before .before .before .before .before .before .before .before .before .before .before .before .before .before .before .before .before .before .before .pre .2)) (c .before .before .before .before .before .before .before .before .before .before .before .if1 .taken) (c .before .before .before .before .before .before .before .before .before .before .before .before .cap-at .ensures) (c .before .before .before .before .before .before .before .before .fall-to .ensures) (most-top (c .before .before .before .before .before .before .before .if2 .taken)) (c .before .before .before .before .lay-like .ensures))
+    (c .before .before .before .before .before .before .before .before .before .before .before .before .before .before .before .before .before .before .before .pre .2, c .before .before .before .before .before .before .before .before .before .before .before .before .before .before .before .before .before .before .before .pre .3, lays-like _ (a .states) (a .values) (a .masks .now) (a .limits .now) (a .i) (a .i + a .span) _ _ _ _ _ _ (c .before .before .before .before .before .before .before .before .before .before .before .before .before .before .before .before .before .before .before .pre .0 .few-states) (c .before .before .before .before .before .before .before .before .before .before .before .before .before .before .before .before .before .before .before .pre .0 .all-limits) (omega (arith, c .before .before .before .before .before .before .before .before .before .before .before .before .before .before .before .before .before .before .before .pre .2)) (c .before .before .before .before .before .before .before .before .before .before .before .if1 .taken) (c .before .before .before .before .before .before .before .before .before .before .before .before .cap-at .ensures) (c .before .before .before .before .before .before .before .before .fall-to .ensures) (most-top (c .before .before .before .before .before .before .before .if2 .taken)) (c .before .before .before .before .lay-like .ensures))
 
 mul-t14 : tie.Need-mul-t14
 mul-t14 c = search needs
@@ -51,7 +51,7 @@ same-length-4 c = search needs
 
 returns-2 : tie.Need-returns-2
 returns-2 c = let a = c .before .before .before .before .before .before .before .before .before .before .before .before .before .before .before .before .args in
-    (omega arith, omega arith, lays-more (a .targets .now) (a .costs .now) (a .states) (a .values) (a .masks .now) (a .limits .now) (a .i) _ _ _ _ _ (c .before .before .before .before .before .before .before .before .before .before .before .before .before .before .before .before .pre .0 .all-limits) (c .before .before .before .before .before .before .before .before .before .before .before .before .before .before .before .before .pre .1) (c .before .before .before .before .before .before .before .before .before .cap-at .ensures) (c .before .before .before .before .fill-layer .ensures))
+    (omega arith, omega arith, lays-more (a .targets .now) (a .costs .now) (a .states) (a .values) (a .masks .now) (a .limits .now) (a .i) _ _ _ _ _ (c .before .before .before .before .before .before .before .before .before .before .before .before .before .before .before .before .pre .0 .few-states) (c .before .before .before .before .before .before .before .before .before .before .before .before .before .before .before .before .pre .0 .all-limits) (c .before .before .before .before .before .before .before .before .before .before .before .before .before .before .before .before .pre .1) (c .before .before .before .before .before .before .before .before .before .cap-at .ensures) (c .before .before .before .before .fill-layer .ensures))
 
 pub lay-spec : {M : Type 1} → statement M
 lay-spec =

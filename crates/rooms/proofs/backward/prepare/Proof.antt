@@ -1,47 +1,69 @@
-use mathlib.Core.Path.{_∙_}
-use Rattle.rooms.proofs.Turning.{ready-turned}
-use Rattle.rooms.proofs.Layering.{blank-loaded}
+use mathlib.Core.Path.{refl, sym, _∙_}
+use Rattle.rules.proofs.Checks.{test-failed, test-passed}
+use Rattle.rooms.proofs.Sizing.{sizes-same, prepares-not, prepares-is}
 use borrow.Author.Needs.{needs}
 use Rattle.rooms.proofs.backward.prepare.Statement.{statement}
 use Rattle.rooms.proofs.backward.prepare.Tie as tie
 
-turn-requires : tie.Need-turn-requires
-turn-requires c κs = search needs
-
-blank-requires : tie.Need-blank-requires
-blank-requires c κs = search needs
-
-fill-rooms-requires : tie.Need-fill-rooms-requires
-fill-rooms-requires c κs = let p = c .before .before .before .before .before .before .before .before .before .before .before .before .before .before .before .before .before .before .before .before .before .before .before .pre in
-    let t = c .before .before .before .before .before .before .before .before .before .before .before .before .turn .kept in
-    let n = c .before .before .before .before .before .before .blank in
-    (ready-turned (p .0) (t .1 .1 .1 .1 .0 ∙ p .1) (t .1 .1 .1 .1 .1 .0 ∙ p .2), n .kept .1 .1 .0 ∙ p .3, blank-loaded _ (n .kept .1 .1 .0 ∙ p .3) (n .ensures))
+fits-requires : tie.Need-fits-requires
+fits-requires c κs = search needs
 
 same-length : tie.Need-same-length
-same-length c = c .before .before .before .before .before .before .before .before .before .before .before .before .before .before .before .before .before .turn .kept .1 .1 .1 .1 .0
-
-same-length-2 : tie.Need-same-length-2
-same-length-2 c = c .before .before .before .before .before .before .before .before .before .before .before .before .before .before .before .before .before .turn .kept .1 .1 .1 .1 .1 .0
-
-same-length-3 : tie.Need-same-length-3
-same-length-3 c = c .before .before .before .before .fill-rooms .kept .1 .1 .1 .1 .1 .1 .1 .0 ∙ c .before .before .before .before .before .before .before .before .before .before .before .blank .kept .1 .1 .0
-
-same-length-4 : tie.Need-same-length-4
-same-length-4 c = c .before .before .before .before .fill-rooms .kept .1 .1 .1 .1 .1 .1 .1 .1 .0
+same-length c = search needs
 
 returns : tie.Need-returns
-returns c = let f = c .before .before .before .before .fill-rooms .ensures in
-    record { arcs = c .before .before .before .before .before .before .before .before .before .before .before .before .before .before .before .before .before .turn .ensures; rooms = f .0; first = f .1 }
+returns c = prepares-not (λ s a b. c .before .fits2 .ensures .wrong (test-failed refl (c .if1 .taken)) s)
+
+same-length-2 : tie.Need-same-length-2
+same-length-2 c = search needs
+
+returns-2 : tie.Need-returns-2
+returns-2 c = prepares-not (λ s a b. c .if2 .taken a)
+
+same-length-3 : tie.Need-same-length-3
+same-length-3 c = search needs
+
+returns-3 : tie.Need-returns-3
+returns-3 c = prepares-not (λ s a b. c .if3 .taken b)
+
+turn-requires : tie.Need-turn-requires
+turn-requires c κs = let s = c .before .before .before .before .before .fits2 .ensures .right (test-passed refl (c .before .before .before .before .if1 .left)) in
+    (s .few-states, s .few-values, s .all-targets, s .all-costs, c .before .before .before .if2 .left, c .before .before .if3 .left)
+
+fill-rooms-requires : tie.Need-fill-rooms-requires
+fill-rooms-requires c κs = let s = c .before .before .before .before .before .before .before .before .before .before .before .before .before .fits2 .ensures .right (test-passed refl (c .before .before .before .before .before .before .before .before .before .before .before .before .if1 .left)) in
+    let t = c .before .before .before .before .before .before .before .turn .kept in
+    sizes-same s (t .1 .1 .1 .1 .0 ∙ (c .before .before .before .before .before .before .before .before .before .before .before .if2 .left ∙ sym (s .all-targets))) (t .1 .1 .1 .1 .1 .0 ∙ (c .before .before .before .before .before .before .before .before .before .before .if3 .left ∙ sym (s .all-costs))) refl refl refl
+
+same-length-4 : tie.Need-same-length-4
+same-length-4 c = c .before .before .before .before .before .before .before .before .before .before .turn .kept .1 .1 .1 .1 .0
+
+same-length-5 : tie.Need-same-length-5
+same-length-5 c = c .before .before .before .before .before .before .before .before .before .before .turn .kept .1 .1 .1 .1 .1 .0
+
+same-length-6 : tie.Need-same-length-6
+same-length-6 c = c .before .before .fill-rooms .kept .1 .1 .1 .1 .1 .1 .1 .0
+
+returns-4 : tie.Need-returns-4
+returns-4 c = let s = c .before .before .before .before .before .before .before .before .before .before .before .before .before .before .before .before .fits2 .ensures .right (test-passed refl (c .before .before .before .before .before .before .before .before .before .before .before .before .before .before .before .if1 .left)) in
+    let t = c .before .before .before .before .before .before .before .before .before .before .turn .ensures in
+    let f = c .before .before .fill-rooms .ensures in
+    prepares-is s (c .before .before .before .before .before .before .before .before .before .before .before .before .before .before .if2 .left) (c .before .before .before .before .before .before .before .before .before .before .before .before .before .if3 .left) (record { arcs = t .0; rooms = f .0; beside-targets = t .1; beside-costs = t .2; beside-rooms = f .1 })
 
 pub prepare-spec : {M : Type 1} → statement M
 prepare-spec =
     tie.close
     (tie.spec
-    turn-requires
-    blank-requires
-    fill-rooms-requires
+    fits-requires
     same-length
+    returns
     same-length-2
+    returns-2
     same-length-3
+    returns-3
+    turn-requires
+    fill-rooms-requires
     same-length-4
-    returns)
+    same-length-5
+    same-length-6
+    returns-4)

@@ -9,25 +9,31 @@ use Rattle.rooms.proofs.backward.raise.Statement.{statement}
 use Rattle.rooms.proofs.backward.raise.Tie as tie
 
 abbrev Inv-loop : tie.InvT-loop
-Inv-loop states targets costs next row₀ q₀ row q = (q ≤ states) × (length row ≡ length row₀) × Filled (λ (k : ℕ). max (getD next (getD targets k 0) 0 - getD costs k 0) (getD row₀ k 0)) q row₀ row
+Inv-loop states targets costs next row₀ q₀ row q = (q .0 ≤ states) × (length row ≡ length row₀) × Filled (λ (k : ℕ). max (getD next (getD targets k 0) 0 - getD costs k 0) (getD row₀ k 0)) (q .0) row₀ row
 
 abbrev μ-loop : tie.MeasureT-loop
-μ-loop states targets costs next row₀ q₀ row q = states - q
+μ-loop states targets costs next row₀ q₀ row q = states - q .0
 
 loop-holds : tie.Need-loop-holds Inv-loop μ-loop
 loop-holds c = (omega arith, refl, filled-none _ _)
+
+cast-if1 : tie.Need-cast-if1 Inv-loop μ-loop
+cast-if1 c = search needs
+
+cast-at : tie.Need-cast-at Inv-loop μ-loop
+cast-at c = search needs
 
 shared-slice-read-less : tie.Need-shared-slice-read-less Inv-loop μ-loop
 shared-slice-read-less c = search needs
 
 cast-less : tie.Need-cast-less Inv-loop μ-loop
-cast-less c = omega (arith, c .shared-slice-known4 .given (c .before .before .loop .q))
+cast-less c = omega (arith, c .shared-slice-known4 .given (c .before .before .before .before .loop .q .0))
 
 mul-less : tie.Need-mul-less Inv-loop μ-loop
-mul-less c = omega (arith, c .shared-slice-known4 .given (c .before .before .loop .q))
+mul-less c = omega (arith, c .shared-slice-known4 .given (c .before .before .before .before .loop .q .0))
 
 shared-slice-read-less-2 : tie.Need-shared-slice-read-less-2 Inv-loop μ-loop
-shared-slice-read-less-2 c = omega (arith, c .before .shared-slice-known4 .given (c .before .before .before .loop .q))
+shared-slice-read-less-2 c = omega (arith, c .before .shared-slice-known4 .given (c .before .before .before .before .before .loop .q .0))
 
 mul-less-2 : tie.Need-mul-less-2 Inv-loop μ-loop
 mul-less-2 c = omega arith
@@ -36,7 +42,7 @@ shared-slice-read-less-3 : tie.Need-shared-slice-read-less-3 Inv-loop μ-loop
 shared-slice-read-less-3 c = search needs
 
 cast-less-2 : tie.Need-cast-less-2 Inv-loop μ-loop
-cast-less-2 c = omega (arith, c .shared-slice-known6 .given (c .before .before .before .before .loop .q))
+cast-less-2 c = omega (arith, c .shared-slice-known6 .given (c .before .before .before .before .before .before .loop .q .0))
 
 less-requires : tie.Need-less-requires Inv-loop μ-loop
 less-requires c κs = search needs
@@ -56,20 +62,20 @@ mul-row c = search needs
 slice-write-row : tie.Need-slice-write-row Inv-loop μ-loop
 slice-write-row c = search needs
 
-add-q : tie.Need-add-q Inv-loop μ-loop
-add-q c = search needs
+add-t12 : tie.Need-add-t12 Inv-loop μ-loop
+add-t12 c = search needs
 
 loop-less : tie.Need-loop-less Inv-loop μ-loop
 loop-less c = search needs
 
 loop-again : tie.Need-loop-again Inv-loop μ-loop
-loop-again c = (omega arith, simp length-set (c .before .before .before .before .before .before .before .loop .inv .1), filled-more _ (omega arith) (c .before .before .before .before .before .before .before .loop .inv .2) (omega (arith, c .greater .ensures, c .before .before .less .ensures, c .before .before .before .before .before .before .before .loop .inv .2 .left (c .before .before .before .before .before .before .before .loop .q) (omega arith))))
+loop-again c = (omega arith, simp length-set (c .before .before .before .before .before .before .before .before .before .before .loop .inv .1), filled-more _ (omega arith) (c .before .before .before .before .before .before .before .before .before .before .loop .inv .2) (omega (arith, c .before .greater .ensures, c .before .before .before .less .ensures, c .before .before .before .before .before .before .before .before .before .before .loop .inv .2 .left (c .before .before .before .before .before .before .before .before .before .before .loop .q .0) (omega arith))))
 
 same-length : tie.Need-same-length Inv-loop μ-loop
-same-length c = c .before .loop .inv .1
+same-length c = c .before .before .loop .inv .1
 
 returns : tie.Need-returns Inv-loop μ-loop
-returns c = filled-end (c .before .loop .inv .2) (c .before .loop .inv .0) (c .loop-test .left)
+returns c = filled-end (c .before .before .loop .inv .2) (c .before .before .loop .inv .0) (c .if1 .left)
 
 pub raise-spec : {M : Type 1} → statement M
 raise-spec =
@@ -78,6 +84,8 @@ raise-spec =
     Inv-loop
     μ-loop
     loop-holds
+    cast-if1
+    cast-at
     shared-slice-read-less
     cast-less
     mul-less
@@ -91,7 +99,7 @@ raise-spec =
     greater-requires
     mul-row
     slice-write-row
-    add-q
+    add-t12
     loop-less
     loop-again
     same-length

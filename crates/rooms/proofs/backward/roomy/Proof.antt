@@ -4,28 +4,34 @@ use Rattle.rooms.proofs.backward.roomy.Statement.{statement}
 use Rattle.rooms.proofs.backward.roomy.Tie as tie
 
 abbrev Inv-loop : tie.InvT-loop
-Inv-loop states next q₀ q = q < 64
+Inv-loop states next q₀ q = q .0 < 64
 
 abbrev μ-loop : tie.MeasureT-loop
-μ-loop states next q₀ q = states - q
+μ-loop states next q₀ q = states - q .0
 
 loop-holds : tie.Need-loop-holds Inv-loop μ-loop
 loop-holds c = search needs
 
-add-loop : tie.Need-add-loop Inv-loop μ-loop
-add-loop c = search needs
+cast-if1 : tie.Need-cast-if1 Inv-loop μ-loop
+cast-if1 c = search needs
 
-mul-if1 : tie.Need-mul-if1 Inv-loop μ-loop
-mul-if1 c = search needs
+add-if1 : tie.Need-add-if1 Inv-loop μ-loop
+add-if1 c = search needs
 
-shared-slice-read-if1 : tie.Need-shared-slice-read-if1 Inv-loop μ-loop
-shared-slice-read-if1 c = search needs
+cast-if2 : tie.Need-cast-if2 Inv-loop μ-loop
+cast-if2 c = search needs
+
+mul-if2 : tie.Need-mul-if2 Inv-loop μ-loop
+mul-if2 c = search needs
+
+shared-slice-read-if2 : tie.Need-shared-slice-read-if2 Inv-loop μ-loop
+shared-slice-read-if2 c = search needs
 
 returns : tie.Need-returns Inv-loop μ-loop
 returns c = search needs
 
-add-q : tie.Need-add-q Inv-loop μ-loop
-add-q c = search needs
+add-t9 : tie.Need-add-t9 Inv-loop μ-loop
+add-t9 c = search needs
 
 loop-less : tie.Need-loop-less Inv-loop μ-loop
 loop-less c = search needs
@@ -43,11 +49,13 @@ roomy-spec =
     Inv-loop
     μ-loop
     loop-holds
-    add-loop
-    mul-if1
-    shared-slice-read-if1
+    cast-if1
+    add-if1
+    cast-if2
+    mul-if2
+    shared-slice-read-if2
     returns
-    add-q
+    add-t9
     loop-less
     loop-again
     returns-2)

@@ -1,18 +1,18 @@
-use native.Mathlib.Omega.{arith}
-use Prim.Native.Nat.{ℕ, _-_, _≤_, min}
+use Prim.Native.Nat.{ℕ, _≤_, _-_, min}
 use mathlib.Core.Path.{_≡_, refl}
 use lib.ListN.{length, length-set, getD}
 use Rattle.rooms.specs.Tables.{Filled}
 use Rattle.rooms.proofs.Filling.{filled-none, filled-more, filled-end}
 use borrow.Author.Needs.{needs}
+use native.Mathlib.Omega.{arith}
 use Rattle.rooms.proofs.rows.lower.Statement.{statement}
 use Rattle.rooms.proofs.rows.lower.Tie as tie
 
 abbrev Inv-loop : tie.InvT-loop
-Inv-loop count fall cap row₀ q₀ row q = (q ≤ count) × (length row ≡ length row₀) × Filled (λ (j : ℕ). min cap (getD row₀ j 0 - fall)) q row₀ row
+Inv-loop count fall cap row₀ n₀ row n = (n ≤ count) × (length row ≡ length row₀) × Filled (λ (j : ℕ). min cap (getD row₀ j 0 - fall)) n row₀ row
 
 abbrev μ-loop : tie.MeasureT-loop
-μ-loop count fall cap row₀ q₀ row q = count - q
+μ-loop count fall cap row₀ n₀ row n = count - n
 
 loop-holds : tie.Need-loop-holds Inv-loop μ-loop
 loop-holds c = (omega arith, refl, filled-none _ _)
@@ -35,14 +35,14 @@ mul-row c = search needs
 slice-write-row : tie.Need-slice-write-row Inv-loop μ-loop
 slice-write-row c = search needs
 
-add-q : tie.Need-add-q Inv-loop μ-loop
-add-q c = search needs
+add-n : tie.Need-add-n Inv-loop μ-loop
+add-n c = search needs
 
 loop-less : tie.Need-loop-less Inv-loop μ-loop
 loop-less c = search needs
 
 loop-again : tie.Need-loop-again Inv-loop μ-loop
-loop-again c = (omega arith, simp length-set (c .before .before .before .before .loop .inv .1), filled-more _ (omega arith) (c .before .before .before .before .loop .inv .2) (omega (arith, c .lesser .ensures, c .before .less .ensures, c .before .before .before .before .loop .inv .2 .left (c .before .before .before .before .loop .q) (omega arith))))
+loop-again c = (omega arith, simp length-set (c .before .before .before .before .loop .inv .1), filled-more _ (omega arith) (c .before .before .before .before .loop .inv .2) (omega (arith, c .lesser .ensures, c .before .less .ensures, c .before .before .before .before .loop .inv .2 .left (c .before .before .before .before .loop .n) (omega arith))))
 
 same-length : tie.Need-same-length Inv-loop μ-loop
 same-length c = c .before .loop .inv .1
@@ -63,7 +63,7 @@ lower-spec =
     lesser-requires
     mul-row
     slice-write-row
-    add-q
+    add-n
     loop-less
     loop-again
     same-length

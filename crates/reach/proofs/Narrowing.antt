@@ -17,8 +17,8 @@ use Rattle.meaning.proofs.Decisions.{keep-stored}
 use Rattle.meaning.proofs.Lists.{those-same}
 use Rattle.rules.specs.Answers.{zeros}
 use Rattle.rooms.specs.Tables.{Filled, turned, Sizes, Prepared}
 use Rattle.reach.specs.Looks.{Meant, Walks}
-use Rattle.filter.specs.Inner.{Finds}
+use Rattle.reach.specs.Whole.{Finds}
 
 -- the value at a place of a word
 has-getD : (i v : ℕ) (w : List ℕ) → i < length w → has i v w ≡ eqb (getD w i 0) v
@@ -59,25 +59,12 @@ narrowed-is ms own was i n v x y e h k f l d g =
 pub alone-long : (ms : List ℕ) (i x : ℕ) {own : List ℕ} → own ≡ set ms i x → length own ≡ length ms
 alone-long ms i x e = ap length e ∙ length-set ms i x
 
--- the sizes, with the narrowed masks
-pub ready-alone : {qs vs : ℕ} {t c ms ls work own : List ℕ} → Sizes qs vs t c ms ls work → length own ≡ length ms → Sizes qs vs t c own ls work
-ready-alone r e = record {
-  few-states = r .few-states;
-  few-values = r .few-values;
-  all-targets = r .all-targets;
-  all-costs = r .all-costs;
-  some-places = omega (arith, e, r .some-places);
-  few-places = omega (arith, e, r .few-places);
-  all-limits = r .all-limits ∙ sym e;
-  all-work = omega (arith, e, r .all-work);
-}
-
 -- what the walk finds is the first roster with the value there
-pub finds-is : {qs vs start spent i v accepting : ℕ} {t c ms ls own to fee next work mid is was out : List ℕ} {found : Bool} → Sizes qs vs t c ms ls work → i < length ms → own ≡ alone ms i v
-    → Prepared qs vs t c accepting own ls to fee next mid → Walks (turned to fee) qs vs start spent own mid was out found
+pub finds-is : {qs vs start spent i v accepting : ℕ} {t c ms ls own ts cs to fee work mid is was out : List ℕ} {found : Bool} → Sizes qs vs t c ms ls work → i < length ms → own ≡ alone ms i v
+    → Prepared qs vs t c accepting own ls ts cs work to fee mid → Walks (turned to fee) qs vs start spent own mid was out found
     → length mid ≡ length work → is ≡ zeros mid
     → Finds (rosters (rulesOf qs vs t c accepting) start spent (places ms ls)) i v was out work is found
-finds-is {qs} {vs} {start} {spent} {i} {v} {accepting} {t} {c} {ms} {ls} {own} {to} {fee} {mid = mid} p h o r w l z =
+finds-is {qs} {vs} {start} {spent} {i} {v} {accepting} {t} {c} {ms} {ls} {own} {to = to} {fee} {mid = mid} p h o r w l z =
     let m : Meant (turned to fee) qs vs own mid t c ls accepting = record { limits = p .all-limits ∙ sym (alone-long ms i _ o); arcs = r .arcs; rooms = r .rooms } in
     let e = first-alone (rulesOf qs vs t c accepting) start spent i v ms ls (p .few-values) (p .all-limits) h
     ∙ ap (λ (x : List ℕ). take 1 (rosters (rulesOf qs vs t c accepting) start spent (places x ls))) (sym o) in

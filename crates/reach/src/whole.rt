@@ -5,20 +5,18 @@ ghost use lib.ListN.{length};
 ghost use Rattle.meaning.specs.Meaning.{rulesOf, places, rosters};
 ghost use Rattle.meaning.specs.Bounds.{top};
 ghost use Rattle.rooms.specs.Tables.{Sizes};
-ghost use Rattle.filter.specs.Inner.{Filters, Finds};
+ghost use Rattle.reach.specs.Whole.{Filters, Finds};
 use crate::alone;
+use crate::forward;
+use crate::walk;
 use kinds::State;
 use kinds::Value;
-use reach::forward;
-use reach::forward::PAST;
-use reach::walk;
 use rooms::backward;
-use rooms::backward::BYTES;
 use rooms::rows;
 use rules::bounds;
 
 // The filter of a rule set that was found in order: the least cost, one more than the top where no roster is allowed.
-pub(crate) fn filter_from(
+pub fn filter_from(
     states: usize,
     values: usize,
     targets: &[u8],
@@ -36,12 +34,6 @@ pub(crate) fn filter_from(
 {
     let mut to = [0u8; bounds::TABLE_SIZE];
     let mut fee = [0u16; bounds::TABLE_SIZE];
-    let mut next = [0u32; BYTES];
-    let mut front = [0u32; bounds::MOST_STATES];
-    let mut onward = [0u32; BYTES];
-    let mut hints = [0u8; bounds::MOST_VALUES];
-    let mut fronts = [0u32; PAST];
-    let mut onwards = [0u32; PAST];
     backward::prepare(
         states,
         values,
@@ -52,32 +44,15 @@ pub(crate) fn filter_from(
         limits,
         &mut to,
         &mut fee,
-        &mut next,
         work,
     );
-    let least = forward::pass(
-        states,
-        values,
-        &to,
-        &fee,
-        start,
-        spent,
-        masks,
-        work,
-        &mut front,
-        &mut next,
-        &mut onward,
-        &mut hints,
-        &mut fronts,
-        &mut onwards,
-        kept,
-    );
+    let least = forward::pass(states, values, &to, &fee, start, spent, masks, work, kept);
     rows::wipe(work);
     least
 }
 
 // The first roster of a rule set that was found in order.
-pub(crate) fn first_from(
+pub fn first_from(
     states: usize,
     values: usize,
     targets: &[u8],
@@ -99,7 +74,6 @@ pub(crate) fn first_from(
     let mut room = [0u16; bounds::MOST_PLACES];
     let mut to = [0u8; bounds::TABLE_SIZE];
     let mut fee = [0u16; bounds::TABLE_SIZE];
-    let mut next = [0u32; BYTES];
     let own = &mut room[..count];
     alone::narrow(masks, place, value, own);
     backward::prepare(
@@ -112,21 +86,9 @@ pub(crate) fn first_from(
         limits,
         &mut to,
         &mut fee,
-        &mut next,
         work,
     );
-    let found = walk::walk(
-        states,
-        values,
-        &to,
-        &fee,
-        start,
-        spent,
-        own,
-        work,
-        &mut next,
-        roster,
-    );
+    let found = walk::walk(states, values, &to, &fee, start, spent, own, work, roster);
     rows::wipe(work);
     found
 }

@@ -3,11 +3,11 @@ use mathlib.Core.Path.{_≡_, refl, _∙_}
 use lib.ListN.{length, length-set, getD}
 use Rattle.rooms.specs.Tables.{Filled}
 use Rattle.rooms.proofs.Filling.{filled-none, filled-more}
-use Rattle.filter.proofs.Narrowing.{narrowed-is}
+use Rattle.reach.proofs.Narrowing.{narrowed-is}
 use borrow.Author.Needs.{needs}
 use native.Mathlib.Omega.{arith}
-use Rattle.filter.proofs.alone.narrow.Statement.{statement}
-use Rattle.filter.proofs.alone.narrow.Tie as tie
+use Rattle.reach.proofs.alone.narrow.Statement.{statement}
+use Rattle.reach.proofs.alone.narrow.Tie as tie
 
 abbrev Inv-loop : tie.InvT-loop
 Inv-loop masks place value own₀ i₀ own i = (i ≤ length masks) × (length own ≡ length own₀) × Filled (λ (k : ℕ). getD masks k 0) i own₀ own
