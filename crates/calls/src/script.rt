@@ -2,7 +2,6 @@
 ghost use Prim.Native.Nat.{_≤_};
 ghost use lib.ListN.{length};
 use crate::cells;
-use text::bytes::begins;
 
 // The words that a line begins with, in the order of `word_of`.
 pub(crate) const REMARK: usize = 0;
@@ -107,6 +106,21 @@ pub(crate) fn field_end(line: &[u8], at: usize) -> usize
         end += 1;
     }
     end
+}
+
+// Whether a line begins with these bytes.
+fn begins(line: &[u8], word: &[u8]) -> bool {
+    if line.len() < word.len() {
+        return false;
+    }
+    let mut k: usize = 0;
+    while k < word.len() {
+        if line[k] != word[k] {
+            return false;
+        }
+        k += 1;
+    }
+    true
 }
 
 // The number of the word that a line begins with. The words stand one behind the other, and each ends with the byte that must follow its
