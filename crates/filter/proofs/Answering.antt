@@ -15,7 +15,7 @@ use Rattle.rules.proofs.Checks.{both, and-fails, and-goes, size-of, sizes-of, l
 use Rattle.filter.specs.Filter.{left, lengthsRight, passChecks, filterDone, filterOf}
 use Rattle.filter.specs.First.{Given, given, firstDone, firstOf}
 use Rattle.rooms.specs.Tables.{Sizes}
-use Rattle.reach.specs.Whole.{Filters, Finds}
+use Rattle.reach.specs.Whole.{Filters, Finds, FilterRuns, FirstRuns}
 use Rattle.filter.specs.Inner.{Answered, some, none}
 
 -- the lengths, one by one
@@ -141,12 +141,13 @@ module _ (n q v s a : ℕ) (t c ms ls ks work : List ℕ) {x y : ℕ} where
           filter-mask d e k f =
               rw (d, e, k) (wrong-mask (λ n. left n 0 ks (workAfter n work)) (filterDone (verdictOf (rulesOf q v t c a) s 0 (places ms ls)) work) n q v s t c a ms ls (length ks) (length work) [] sizes long lengths rules f)
 
-          pub filter-tells : {out : List ℕ} {least : ℕ} → masksRight v ms ≡ true → Filters (rulesOf q v t c a) s 0 (places ms ls) work is out least → Answered least x y
+          pub filter-tells : {out : List ℕ} {least : ℕ} → masksRight v ms ≡ true → FilterRuns q v t c a s 0 ms ls ks work out is least → Answered least x y
               → left x y out is ≡ filterOf (handed n q v s t c a) ms ls ks work
           unfolding filterOf
           filter-tells f k w =
               all-right (λ n. left n 0 ks (workAfter n work)) (filterDone (verdictOf (rulesOf q v t c a) s 0 (places ms ls)) work) n q v s t c a ms ls (length ks) (length work) [] sizes long lengths rules f
-              (filter-done k w ∙ is-done _ _)
+              (filter-done (k .right (ready n q v s t c ms ls work (length ks) sizes long lengths) (start-state n q v s t c ms ls work (length ks) sizes long lengths) (omega arith)
+              (out-long n q v s t c ms ls work (length ks) sizes long lengths)) w ∙ is-done _ _)
 
 -- the returns of the first roster
 module _ (n q v s a : ℕ) (t c ms ls : List ℕ) (i u : ℕ) (roster work : List ℕ) where
@@ -191,7 +192,12 @@ module _ (n q v s a : ℕ) (t c ms ls : List ℕ) (i u : ℕ) (roster work : Lis
                 rw k (all-right refuse finish n q v s t c a ms ls (length roster) (length work) rest sizes long lengths rules masks (refuses refuse finish _ _ _ f))
 
             module _ (range : (ltb i n && ltb u v) ≡ true) {out : List ℕ} {found : Bool}
-                (finds : Finds (rosters (rulesOf q v t c a) s 0 (places ms ls)) i u roster out work is found) where
+                (runs : FirstRuns q v t c a s 0 ms ls i u roster work out is found) where
+              finds : Finds (rosters (rulesOf q v t c a) s 0 (places ms ls)) i u roster out work is found
+              finds =
+                  runs .right (ready n q v s t c ms ls work (length roster) sizes long lengths) (start-state n q v s t c ms ls work (length roster) sizes long lengths) (omega arith)
+                  (out-long n q v s t c ms ls work (length roster) sizes long lengths) (place-there n q v s t c ms ls work (length roster) sizes long lengths i u range)
+
               pub first-missing : found ≡ false → given 11 out is ≡ firstOf (handed n q v s t c a) ms ls i u roster work
               unfolding firstOf firstDone refuse finish rest
               first-missing f =

@@ -1,11 +1,6 @@
 // The two passes together, from any state and with any cost spent.
 ghost use mathlib.Core.Path.{_≡_};
-ghost use Prim.Native.Nat.{_≤_, _<_};
-ghost use lib.ListN.{length};
-ghost use Rattle.meaning.specs.Meaning.{rulesOf, places, rosters};
-ghost use Rattle.meaning.specs.Bounds.{top};
-ghost use Rattle.rooms.specs.Tables.{Sizes};
-ghost use Rattle.reach.specs.Whole.{Filters, Finds};
+ghost use Rattle.reach.specs.Whole.{Order, FilterRuns, FirstRuns};
 use crate::alone;
 use crate::forward;
 use crate::walk;
@@ -14,8 +9,22 @@ use kinds::Value;
 use rooms::backward;
 use rooms::rows;
 use rules::bounds;
+use rules::bounds::TOP;
 
-// The filter of a rule set that was found in order: the least cost, one more than the top where no roster is allowed.
+// Whether the start is a state, the cost already spent is one, and the slice to write has a number for each place.
+pub(crate) fn in_order(states: usize, start: State, spent: u32, count: usize, out: usize) -> bool
+    ensures { λ r. ⌜ Order states (start .0) spent count out r ⌝ }
+{
+    if states <= (start.0 as usize) {
+        return false;
+    }
+    if TOP < spent {
+        return false;
+    }
+    out == count
+}
+
+// The whole filter: the least cost, one more than the top where no roster is allowed. Where something lent is not in order, all stays.
 pub fn filter_from(
     states: usize,
     values: usize,
@@ -29,12 +38,14 @@ pub fn filter_from(
     kept: &mut [u16],
     work: &mut [u32],
 ) -> u32
-    requires { ⌜ Sizes states values (now targets) (now costs) (now masks) (now limits) (now work) × (start .0 < states) × (spent ≤ top) × (length (now kept) ≡ length (now masks)) ⌝ }
-    ensures { λ r. ⌜ Filters (rulesOf states values (now (targets .entry)) (now (costs .entry)) accepting) (start .0) spent (places (now (masks .entry)) (now (limits .entry))) (now (work .entry)) (now (work .exit)) (now (kept .exit)) r ⌝ }
+    ensures { λ r. ⌜ FilterRuns states values (now (targets .entry)) (now (costs .entry)) accepting (start .0) spent (now (masks .entry)) (now (limits .entry)) (now (kept .entry)) (now (work .entry)) (now (kept .exit)) (now (work .exit)) r ⌝ }
 {
+    if !in_order(states, State(start.0), spent, masks.len(), kept.len()) {
+        return TOP + 1;
+    }
     let mut to = [0u8; bounds::TABLE_SIZE];
     let mut fee = [0u16; bounds::TABLE_SIZE];
-    backward::prepare(
+    if !backward::prepare(
         states,
         values,
         targets,
@@ -45,13 +56,15 @@ pub fn filter_from(
         &mut to,
         &mut fee,
         work,
-    );
+    ) {
+        return TOP + 1;
+    }
     let least = forward::pass(states, values, &to, &fee, start, spent, masks, work, kept);
     rows::wipe(work);
     least
 }
 
-// The first roster of a rule set that was found in order.
+// The first roster with a value at a place, and whether there is one. Where something lent is not in order, all stays.
 pub fn first_from(
     states: usize,
     values: usize,
@@ -67,16 +80,24 @@ pub fn first_from(
     roster: &mut [u8],
     work: &mut [u32],
 ) -> bool
-    requires { ⌜ Sizes states values (now targets) (now costs) (now masks) (now limits) (now work) × (start .0 < states) × (spent ≤ top) × (length (now roster) ≡ length (now masks)) × (place < length (now masks)) ⌝ }
-    ensures { λ r. ⌜ Finds (rosters (rulesOf states values (now (targets .entry)) (now (costs .entry)) accepting) (start .0) spent (places (now (masks .entry)) (now (limits .entry)))) place (value .0) (now (roster .entry)) (now (roster .exit)) (now (work .entry)) (now (work .exit)) r ⌝ }
+    ensures { λ r. ⌜ FirstRuns states values (now (targets .entry)) (now (costs .entry)) accepting (start .0) spent (now (masks .entry)) (now (limits .entry)) place (value .0) (now (roster .entry)) (now (work .entry)) (now (roster .exit)) (now (work .exit)) r ⌝ }
 {
     let count = masks.len();
+    if !in_order(states, State(start.0), spent, count, roster.len()) {
+        return false;
+    }
+    if count <= place {
+        return false;
+    }
+    if bounds::MOST_PLACES < count {
+        return false;
+    }
     let mut room = [0u16; bounds::MOST_PLACES];
     let mut to = [0u8; bounds::TABLE_SIZE];
     let mut fee = [0u16; bounds::TABLE_SIZE];
     let own = &mut room[..count];
     alone::narrow(masks, place, value, own);
-    backward::prepare(
+    if !backward::prepare(
         states,
         values,
         targets,
@@ -87,7 +108,9 @@ pub fn first_from(
         &mut to,
         &mut fee,
         work,
-    );
+    ) {
+        return false;
+    }
     let found = walk::walk(states, values, &to, &fee, start, spent, own, work, roster);
     rows::wipe(work);
     found

@@ -57,9 +57,9 @@ sizes-right qs vs t c ms ls work =
 
 -- a backward pass that stays, and one that is made
 pub prepares-not : {qs vs accepting : ℕ} {t c ms ls to fee work : List ℕ} → (Sizes qs vs t c ms ls work → length to ≡ tableSize → length fee ≡ tableSize → ⊥)
-    → Prepares qs vs t c accepting ms ls to fee work to fee work
-prepares-not h = record { right = λ s a b. absurd (h s a b); wrong = λ k. (refl, refl, refl) }
+    → Prepares qs vs t c accepting ms ls to fee work to fee work false
+prepares-not h = record { right = λ e. absurd (false≢true e); wrong = λ e. (h, refl, refl, refl) }
 
 pub prepares-is : {qs vs accepting : ℕ} {t c ms ls to fee work to′ fee′ work′ : List ℕ} → Sizes qs vs t c ms ls work → length to ≡ tableSize → length fee ≡ tableSize
-    → Prepared qs vs t c accepting ms ls to fee work to′ fee′ work′ → Prepares qs vs t c accepting ms ls to fee work to′ fee′ work′
-prepares-is s a b p = record { right = λ x y z. p; wrong = λ h. absurd (h s a b) }
+    → Prepared qs vs t c accepting ms ls to fee work to′ fee′ work′ → Prepares qs vs t c accepting ms ls to fee work to′ fee′ work′ true
+prepares-is s a b p = record { right = λ e. (s, a, b, p); wrong = λ e. absurd (false≢true (sym e)) }

@@ -1,18 +1,18 @@
 -- Each public contract of this crate leaves one content of what is lent: any two outcomes that it allows are equal. A lent row or table
 -- keeps its length. Assumes nothing.
-use mathlib.Core.Path.{_≡_, sym, ap, subst, _∙_}
+use mathlib.Core.Path.{_≡_, refl, sym, ap, subst, _∙_}
+use mathlib.Core.Bool.{Bool, true, false}
 use mathlib.Core.List.{List}
 use Prim.Native.Nat.{ℕ, suc, _+_, _*_, _-_, _/_, _%_, _≤_, _<_}
 use native.Mathlib.Omega.{arith}
-use native.Mathlib.Decide.{decLt, ℕ-discrete}
+use native.Mathlib.Decide.{decLt}
 use lib.ListN.{length, getD, drop}
 use lib.Seq.{ext-getD}
-use Rattle.meaning.specs.Bounds.{mostStates, tableSize}
+use Rattle.meaning.specs.Bounds.{mostStates}
 use Rattle.meaning.specs.Meaning.{rulesOf, places}
 use Rattle.rules.specs.Answers.{zeros}
-use Rattle.rooms.specs.Tables.{blanked, copied, turned, frame, capped, before, layer, Outside, Sizes, Prepared, Prepares}
+use Rattle.rooms.specs.Tables.{blanked, copied, turned, frame, capped, before, layer, Outside, Prepared, Prepares}
 use Rattle.rooms.proofs.Rooms.{room-same}
-use Rattle.rooms.proofs.Sizing.{sizes-right}
 
 pub blank-unique : (count number : ℕ) (row a b : List ℕ) → a ≡ blanked count number row → b ≡ blanked count number row → a ≡ b
 blank-unique count number row a b e f = e ∙ sym f
@@ -60,15 +60,14 @@ module _ (qs vs : ℕ) (ts cs : List ℕ) (accepting : ℕ) (ms ls to fee work :
           ∙ (ap (capped (before ls j)) (room-same (rulesOf qs vs ts cs accepting) (turned a b) (turned a′ b′) (r .arcs) (s .arcs) (drop j (places ms ls)) q)
           ∙ sym (s .rooms .right j q (omega arith) (omega arith) k))
 
-  pub prepare-unique : (a b c a′ b′ c′ : List ℕ) → length a ≡ length a′ → length b ≡ length b′ → length c ≡ length c′
-      → Prepares qs vs ts cs accepting ms ls to fee work a b c → Prepares qs vs ts cs accepting ms ls to fee work a′ b′ c′ → (a ≡ a′) × (b ≡ b′) × (c ≡ c′)
-  prepare-unique a b c a′ b′ c′ e f g r s = go (sizes-right qs vs ts cs ms ls work) (ℕ-discrete (length to) tableSize) (ℕ-discrete (length fee) tableSize)
-    where
-      stays : (a ≡ to) × (b ≡ fee) × (c ≡ work) → (a′ ≡ to) × (b′ ≡ fee) × (c′ ≡ work) → (a ≡ a′) × (b ≡ b′) × (c ≡ c′)
-      stays x y = (x .0 ∙ sym (y .0), x .1 ∙ sym (y .1), x .2 ∙ sym (y .2))
-
-      go : Dec (Sizes qs vs ts cs ms ls work) → Dec (length to ≡ tableSize) → Dec (length fee ≡ tableSize) → (a ≡ a′) × (b ≡ b′) × (c ≡ c′)
-      go (yes h) (yes k) (yes l) = prepared-one a b c a′ b′ c′ e f g (r .right h k l) (s .right h k l)
-      go (no h) k l = stays (r .wrong (λ x y z. h x)) (s .wrong (λ x y z. h x))
-      go (yes h) (no k) l = stays (r .wrong (λ x y z. k y)) (s .wrong (λ x y z. k y))
-      go (yes h) (yes k) (no l) = stays (r .wrong (λ x y z. l z)) (s .wrong (λ x y z. l z))
+  pub prepare-unique : (a b c a′ b′ c′ : List ℕ) (x y : Bool) → length a ≡ length a′ → length b ≡ length b′ → length c ≡ length c′
+      → Prepares qs vs ts cs accepting ms ls to fee work a b c x → Prepares qs vs ts cs accepting ms ls to fee work a′ b′ c′ y → (x ≡ y) × (a ≡ a′) × (b ≡ b′) × (c ≡ c′)
+  prepare-unique a b c a′ b′ c′ true true e f g r s =
+      let o = prepared-one a b c a′ b′ c′ e f g (r .right refl .3) (s .right refl .3) in
+      (refl, o .0, o .1, o .2)
+  prepare-unique a b c a′ b′ c′ false false e f g r s =
+      let x = r .wrong refl in
+      let y = s .wrong refl in
+      (refl, x .1 ∙ sym (y .1), x .2 ∙ sym (y .2), x .3 ∙ sym (y .3))
+  prepare-unique a b c a′ b′ c′ true false e f g r s = let h = r .right refl in absurd (s .wrong refl .0 (h .0) (h .1) (h .2))
+  prepare-unique a b c a′ b′ c′ false true e f g r s = let h = s .right refl in absurd (r .wrong refl .0 (h .0) (h .1) (h .2))

@@ -138,6 +138,6 @@ pub record Prepared (qs vs : ℕ) (ts cs : List ℕ) (accepting : ℕ) (ms ls to
   pub beside-rooms : Outside qs (suc (length ms)) work work′
 
 -- the same for whatever is lent: nothing is written where a size is wrong
-pub record Prepares (qs vs : ℕ) (ts cs : List ℕ) (accepting : ℕ) (ms ls to fee work to′ fee′ work′ : List ℕ) : Type 0 where
-  pub right : Sizes qs vs ts cs ms ls work → length to ≡ tableSize → length fee ≡ tableSize → Prepared qs vs ts cs accepting ms ls to fee work to′ fee′ work′
-  pub wrong : (Sizes qs vs ts cs ms ls work → length to ≡ tableSize → length fee ≡ tableSize → ⊥) → (to′ ≡ to) × (fee′ ≡ fee) × (work′ ≡ work)
+pub record Prepares (qs vs : ℕ) (ts cs : List ℕ) (accepting : ℕ) (ms ls to fee work to′ fee′ work′ : List ℕ) (found : Bool) : Type 0 where
+  pub right : found ≡ true → Sizes qs vs ts cs ms ls work × (length to ≡ tableSize) × (length fee ≡ tableSize) × Prepared qs vs ts cs accepting ms ls to fee work to′ fee′ work′
+  pub wrong : found ≡ false → (Sizes qs vs ts cs ms ls work → length to ≡ tableSize → length fee ≡ tableSize → ⊥) × (to′ ≡ to) × (fee′ ≡ fee) × (work′ ≡ work)

@@ -331,7 +331,7 @@ pub(crate) fn fits(
     true
 }
 
-// The whole backward pass: the tables turned, and the rooms of all layers. Where something lent has not its size, all stays.
+// The whole backward pass: the tables turned, and the rooms of all layers. Where something lent has not its size, all stays; says which.
 pub fn prepare(
     states: usize,
     values: usize,
@@ -343,18 +343,19 @@ pub fn prepare(
     to: &mut [u8],
     fee: &mut [u16],
     work: &mut [u32],
-)
-    ensures { λ _. ⌜ Prepares states values (now (targets .entry)) (now (costs .entry)) accepting (now (masks .entry)) (now (limits .entry)) (now (to .entry)) (now (fee .entry)) (now (work .entry)) (now (to .exit)) (now (fee .exit)) (now (work .exit)) ⌝ }
+) -> bool
+    ensures { λ r. ⌜ Prepares states values (now (targets .entry)) (now (costs .entry)) accepting (now (masks .entry)) (now (limits .entry)) (now (to .entry)) (now (fee .entry)) (now (work .entry)) (now (to .exit)) (now (fee .exit)) (now (work .exit)) r ⌝ }
 {
     if !fits(states, values, targets, costs, masks, limits, work) {
-        return;
+        return false;
     }
     if to.len() != bounds::TABLE_SIZE {
-        return;
+        return false;
     }
     if fee.len() != bounds::TABLE_SIZE {
-        return;
+        return false;
     }
     turn::turn(states, values, targets, costs, to, fee);
     fill_rooms(states, values, to, fee, accepting, masks, limits, work);
+    true
 }

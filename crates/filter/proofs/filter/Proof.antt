@@ -1,5 +1,5 @@
 use Rattle.rules.proofs.Checks.{test-failed, test-passed, sizes-of}
-use Rattle.filter.proofs.Answering.{filter-size, filter-tables-long, filter-lengths, filter-tables, filter-mask, filter-tells, ready, start-state, out-long}
+use Rattle.filter.proofs.Answering.{filter-size, filter-tables-long, filter-lengths, filter-tables, filter-mask, filter-tells}
 use borrow.Author.Needs.{needs}
 use Rattle.filter.proofs.filter.Statement.{statement}
 use Rattle.filter.proofs.filter.Tie as tie
@@ -68,15 +68,7 @@ returns-5 c = filter-mask _ _ _ _ _ _ _ _ _ _ _ (test-passed (c .before .before 
     (c .refused5 .ensures .0) (c .refused5 .ensures .1) (c .before .before .before .clear2 .ensures) (test-failed (c .before .before .before .before .before .before .masks-right .ensures) (c .before .before .before .before .before .if5 .taken))
 
 filter-from-requires : tie.Need-filter-from-requires
-filter-from-requires c κs = let a = c .before .before .before .before .before .before .before .before .before .before .before .before .before .before .before .before .before .before .before .args in
-    let s = test-passed (c .before .before .before .before .before .before .before .before .before .before .before .before .sizes-right .ensures) (c .before .before .before .before .before .before .before .before .before .before .before .if1 .left) in
-    let t = test-passed (c .before .before .before .before .before .before .before .before .before .before .tables-long .ensures) (c .before .before .before .before .before .before .before .before .before .if2 .left) in
-    let l = test-passed (c .before .before .before .before .before .before .before .before .lengths-right .ensures) (c .before .before .before .before .before .before .before .if3 .left) in (
-      ready (a .places) _ _ _ _ _ (a .masks .now) (a .limits .now) (a .work .now) _ s t l,
-      start-state (a .places) _ _ _ (a .targets .now) (a .costs .now) (a .masks .now) (a .limits .now) (a .work .now) _ s t l,
-      search needs,
-      out-long (a .places) _ _ _ (a .targets .now) (a .costs .now) (a .masks .now) (a .limits .now) (a .work .now) _ s t l,
-    )
+filter-from-requires c κs = search needs
 
 verdict-requires : tie.Need-verdict-requires
 verdict-requires c κs = search needs

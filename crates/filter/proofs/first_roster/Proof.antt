@@ -1,5 +1,5 @@
 use Rattle.rules.proofs.Checks.{test-failed, test-passed, sizes-of}
-use Rattle.filter.proofs.Answering.{first-size, first-tables-long, first-lengths, first-tables, first-mask, first-range, first-missing, first-found, ready, start-state, out-long, place-there}
+use Rattle.filter.proofs.Answering.{first-size, first-tables-long, first-lengths, first-tables, first-mask, first-range, first-missing, first-found}
 use borrow.Author.Tests.{not-true, not-false}
 use borrow.Author.Needs.{needs}
 use Rattle.filter.proofs.first_roster.Statement.{statement}
@@ -66,16 +66,7 @@ returns-6 c = first-range _ _ _ _ _ _ _ _ _ _ _ _ _ (test-passed (c .before .bef
     (test-passed (c .before .before .before .before .before .before .before .masks-right .ensures) (c .before .before .before .before .before .before .if5 .left)) (c .before .before .clear3 .ensures) (test-failed (c .before .before .before .before .before .in-range .ensures) (c .before .before .before .before .if6 .taken))
 
 first-from-requires : tie.Need-first-from-requires
-first-from-requires c κs = let a = c .before .before .before .before .before .before .before .before .before .before .before .before .before .before .before .before .before .before .before .before .before .args in
-    let s = test-passed (c .before .before .before .before .before .before .before .before .before .before .before .before .before .before .sizes-right .ensures) (c .before .before .before .before .before .before .before .before .before .before .before .before .before .if1 .left) in
-    let t = test-passed (c .before .before .before .before .before .before .before .before .before .before .before .before .tables-long .ensures) (c .before .before .before .before .before .before .before .before .before .before .before .if2 .left) in
-    let l = test-passed (c .before .before .before .before .before .before .before .before .before .before .lengths-right .ensures) (c .before .before .before .before .before .before .before .before .before .if3 .left) in (
-      ready (a .places) _ _ _ _ _ (a .masks .now) (a .limits .now) (a .work .now) _ s t l,
-      start-state (a .places) _ _ _ (a .targets .now) (a .costs .now) (a .masks .now) (a .limits .now) (a .work .now) _ s t l,
-      search needs,
-      out-long (a .places) _ _ _ (a .targets .now) (a .costs .now) (a .masks .now) (a .limits .now) (a .work .now) _ s t l,
-      place-there (a .places) _ _ _ (a .targets .now) (a .costs .now) (a .masks .now) (a .limits .now) (a .work .now) _ s t l _ _ (test-passed (c .before .before .before .before .in-range .ensures) (c .before .before .before .if6 .left)),
-    )
+first-from-requires c κs = search needs
 
 same-length-4 : tie.Need-same-length-4
 same-length-4 c = search needs
