@@ -156,13 +156,14 @@ pub fn problem(random: &mut Random, scale: Scale) -> Problem {
 }
 
 fn masks(random: &mut Random, places: usize, rules: &Rules, way: &Way) -> Vec<u16> {
-    let style = random.below(4);
+    let style = random.below(6);
     let full = rules.full_mask();
     let mut masks: Vec<u16> = (0..places).map(|_| random.number() as u16 & full).collect();
     match style {
         0 | 1 => masks.fill(full),
         2 => way.steps.iter().zip(&mut masks).for_each(|((value, _), mask)| *mask |= 1 << value),
-        _ => masks.iter_mut().for_each(|mask| *mask |= random.number() as u16 & full),
+        3 => masks.iter_mut().for_each(|mask| *mask |= random.number() as u16 & full),
+        _ => repeat(random, full, &mut masks),
     }
     if random.percent(4) {
         masks[random.below(places)] = 0;
@@ -170,9 +171,37 @@ fn masks(random: &mut Random, places: usize, rules: &Rules, way: &Way) -> Vec<u1
     masks
 }
 
+/// Masks that repeat: one mask in each long run, full masks broken now and then, or a few masks
+/// by turns.
+fn repeat(random: &mut Random, full: u16, masks: &mut [u16]) {
+    let wide = |random: &mut Random| (random.number() | random.number()) as u16 & full;
+    match random.below(3) {
+        0 => {
+            let most = random.pick(&[10, 40, 366]);
+            for run in masks.chunks_mut(random.from_to(2, most)) {
+                let mask = wide(random);
+                run.fill(mask);
+            }
+        }
+        1 => {
+            let broken = random.from_to(2, 60);
+            for (place, mask) in masks.iter_mut().enumerate() {
+                *mask = if place % broken == 1 { wide(random) } else { full };
+            }
+        }
+        _ => {
+            let turns = random.from_to(1, 9);
+            for place in turns..masks.len() {
+                masks[place] = masks[place - turns];
+            }
+        }
+    }
+}
+
 fn limits(random: &mut Random, places: usize, way: &Way) -> Vec<u32> {
-    let style = random.below(9);
+    let style = random.below(11);
     let tight_place = random.below(places);
+    let late = places - random.from_to(1, places.min(9));
     (0..places)
         .map(|place| match style {
             0 => MOST_LIMIT,
@@ -187,6 +216,9 @@ fn limits(random: &mut Random, places: usize, way: &Way) -> Vec<u32> {
             6 => near(random, way.cost()),
             7 if place == tight_place => near(random, way.cost_at(place)),
             7 => MOST_LIMIT,
+            // Limits that bind late.
+            8 | 9 if place >= late => near(random, way.cost_at(place)),
+            8 | 9 => MOST_LIMIT,
             _ => random.below(2 * way.cost() as usize + 2) as u32,
         })
         .collect()

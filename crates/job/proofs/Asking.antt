@@ -7,8 +7,7 @@ use lib.Dec.{ltb}
 use Rattle.kinds.specs.Bits.{width, maskOf}
 use Rattle.kinds.proofs.Bits.{ones-mask}
 use Rattle.meaning.specs.Bounds.{mostValues}
-use Rattle.text.specs.Numbers.{readNumber}
-use Rattle.text.specs.Inner.{NumberAt}
+use Rattle.text.specs.Numbers.{readNumber, NumberAt}
 use Rattle.text.specs.declared.numbers.Number.{Number}
 
 -- the full mask

@@ -13,12 +13,11 @@ use Rattle.meaning.specs.Bounds.{top}
 use Rattle.rules.specs.Checks.{sizeRight, sizesRight, rulesRight, masksRight}
 use Rattle.rules.proofs.Checks.{both, Size, size-of, sizes-last}
 use Rattle.text.specs.Numbers.{readNumber}
-use Rattle.text.specs.Lines.{right, wrong, strip, onStrip, lines}
+use Rattle.text.specs.Lines.{right, wrong, strip, onStrip, lines, LineAt}
 use Rattle.text.specs.declared.lines.Fault.the-variants.{Form}
 use Rattle.text.proofs.Decimals.{number-read}
 use Rattle.text.proofs.Judging.{onStrip-right, onField-right, close-right}
 use Rattle.text.specs.declared.lines.Fault.{Fault}
-use Rattle.text.specs.Inner.{LineAt}
 use Rattle.job.specs.Input.{mostDays, mostLines, daysWord, readDays, days, wrongLine, readDecisions, readJob}
 use Rattle.job.specs.Output.{jobLine, verdictText}
 use Rattle.job.specs.Job.{doneText}

@@ -16,8 +16,7 @@ use Rattle.kinds.proofs.Bits.{meet-mask}
 use Rattle.meaning.specs.Meaning.{Decision, Keep, Limit, places, decides}
 use Rattle.meaning.proofs.Decisions.{keep-stored, limit-stored, decides-append}
 use Rattle.text.specs.Bytes.{feed}
-use Rattle.text.specs.Lines.{right, wrong, onto, lines}
-use Rattle.text.specs.Inner.{LineAt}
+use Rattle.text.specs.Lines.{right, wrong, onto, lines, LineAt}
 use Rattle.text.specs.declared.lines.Fault.{Fault}
 use Rattle.job.specs.Input.{mostLines, readDecision, Job, days, wrongLine, withDecision, readDecisions}
 use Rattle.job.specs.Inner.{askedView, asks, AskedIn, Took}

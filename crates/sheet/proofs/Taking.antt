@@ -21,11 +21,9 @@ use Rattle.rules.proofs.Checks.{arc-place, never}
 use Rattle.rules.specs.declared.Size.{Size}
 use Rattle.kinds.specs.declared.State.{State}
 use Rattle.kinds.specs.declared.Value.{Value}
-use Rattle.text.specs.Lines.{right, wrong}
+use Rattle.text.specs.Lines.{right, wrong, lines, LineAt}
 use Rattle.sheet.specs.Lines.{Line, final, arc, place, readSize, readLine}
-use Rattle.text.specs.Lines.{lines}
 use Rattle.sheet.specs.Sheets.{Sheet, sheet, wrongAt, withLine, readRest, readLines, readSheet, names, acceptingOf, puts, theTarget, theCost, blank}
-use Rattle.text.specs.Inner.{LineAt}
 use Rattle.sheet.specs.Inner.{Sized, topView, rowView, rowLines, rowNext, RowIn, Put, Took}
 use Rattle.text.specs.declared.lines.Fault.{Fault}
 use Rattle.text.specs.declared.lines.Fault.the-variants.{Form}

@@ -15,9 +15,8 @@ use Rattle.rules.proofs.Checks.{never}
 use Rattle.rules.specs.declared.Size.{Size}
 use Rattle.text.specs.Bytes.{tab, feed}
 use Rattle.text.specs.Numbers.{decimal, readNumber, readField, fieldEnd}
-use Rattle.text.specs.Lines.{Judged, right, wrong, Stripped, rest, other, strip, onStrip, ending, onJudged}
+use Rattle.text.specs.Lines.{Judged, right, wrong, Stripped, rest, other, strip, onStrip, ending, onJudged, onto, lines}
 use Rattle.sheet.specs.Lines.{sizeOf, Line, final, arc, sizeWord, finalWord, arcWord, sizeText, lineText, place, readSize, readFinal, readArc, readLine}
-use Rattle.text.specs.Lines.{onto, lines}
 use Rattle.sheet.specs.Sheets.{Sheet, sheet, wrongAt, withLine, readRest, readLines, readSheet, textOf}
 use Rattle.sheet.specs.Inner.{Sized}
 use Rattle.text.specs.declared.lines.Fault.the-variants.{Form}

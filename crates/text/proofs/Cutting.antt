@@ -9,8 +9,7 @@ use lib.Dec.{eqb}
 use lib.Seq.{drop-cons, getD-drop, drop-length, drop-drop, take-all}
 use borrow.Author.Tests.{ne-eqb}
 use Rattle.text.specs.Bytes.{feed}
-use Rattle.text.specs.Lines.{onto, lines}
-use Rattle.text.specs.Inner.{LineAt}
+use Rattle.text.specs.Lines.{onto, lines, LineAt}
 
 -- a text with one line feed, at its end
 pub data OneLine : List ℕ → Type 0 where

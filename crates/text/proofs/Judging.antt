@@ -14,9 +14,8 @@ use borrow.Author.Tests.{eq-eqb, ne-eqb, eqb-true}
 use Rattle.meaning.specs.Lists.{all}
 use Rattle.rules.proofs.Checks.{both, never}
 use Rattle.text.specs.Bytes.{tab, feed, isSmall}
-use Rattle.text.specs.Numbers.{Field, number, malformed, outside, readNumber, readField}
-use Rattle.text.specs.Lines.{Judged, right, wrong, Stripped, rest, other, strip, stripWord, onStrip, onField, ending, sealed, close}
-use Rattle.text.specs.Inner.{NumberAt, numberFault, stripView}
+use Rattle.text.specs.Numbers.{Field, number, malformed, outside, readNumber, readField, NumberAt}
+use Rattle.text.specs.Lines.{Judged, right, wrong, Stripped, rest, other, strip, stripWord, onStrip, onField, ending, sealed, close, numberFault, stripView}
 use Rattle.text.specs.declared.lines.Fault.the-variants.{Form, Order, Cut}
 use Rattle.text.specs.declared.lines.End.{End}
 use Rattle.text.specs.declared.lines.End.the-variants.{Fine, Faulty}

@@ -15,9 +15,9 @@ use lib.Seq.{drop-cons}
 use borrow.Author.Tests.{le-leb, lt-leb, eq-eqb, ne-eqb, leb-true, eqb-true}
 use Rattle.rules.proofs.Checks.{both, never}
 use Rattle.text.specs.Bytes.{tab, feed, nought, isDigit, isSmall, sortOf}
-use Rattle.text.specs.Numbers.{digits, past, value, plain, fieldEnd, Field, number, malformed, outside, readNumber, tabbed}
+use Rattle.text.specs.Numbers.{digits, past, value, plain, fieldEnd, Field, number, malformed, outside, readNumber, tabbed, numberView, numberIn, NumberAt}
 use Rattle.text.specs.Lines.{rest, other, stripWord}
-use Rattle.text.specs.Inner.{Ended, RunAt, numberView, numberIn, NumberAt}
+use Rattle.text.specs.Inner.{Ended, RunAt}
 use Rattle.text.specs.declared.bytes.Sort.{Sort}
 use Rattle.text.specs.declared.bytes.Sort.the-variants.{Digit, Tab, Feed, Small, Other}
 use Rattle.text.specs.declared.numbers.Number.{Number}

@@ -9,9 +9,8 @@ use lib.ListN.{length, take, drop, length-drop}
 use lib.Seq.{length-take-le}
 use Rattle.rules.proofs.Checks.{never}
 use Rattle.text.specs.Bytes.{sortOf}
-use Rattle.text.specs.Numbers.{Field, number}
-use Rattle.text.specs.Lines.{stripWord, ending, lines}
-use Rattle.text.specs.Inner.{NumberAt, numberFault, stripView, LineEnd}
+use Rattle.text.specs.Numbers.{Field, number, NumberAt}
+use Rattle.text.specs.Lines.{stripWord, ending, lines, numberFault, stripView, LineEnd}
 use Rattle.text.specs.Writing.{Wrote}
 use Rattle.text.specs.declared.bytes.Sort.{Sort}
 use Rattle.text.specs.declared.lines.Fault.{Fault}

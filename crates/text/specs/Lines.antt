@@ -1,10 +1,14 @@
 -- Lines of fields: a text cut into lines, the word at the front of a line, and the judgement of what follows.
+use mathlib.Core.Path.{_≡_}
 use mathlib.Core.Bool.{Bool, true, false, cond, _&&_}
 use mathlib.Core.List.{List, [], _∷_}
-use Prim.Native.Nat.{ℕ}
+use Prim.Native.Nat.{ℕ, _-_, _≤_, _<_}
 use lib.Dec.{eqb}
+use lib.ListN.{length, take, drop}
 use Rattle.text.specs.Bytes.{tab, feed, isSmall}
 use Rattle.text.specs.Numbers.{Field, number, malformed, outside}
+use Rattle.text.specs.declared.numbers.Number.{Number}
+use Rattle.text.specs.declared.numbers.Number.the-variants.{Value, Malformed, Outside}
 use Rattle.text.specs.declared.lines.Fault.{Fault}
 use Rattle.text.specs.declared.lines.Fault.the-variants.{Form, Range, Order, Cut}
 use Rattle.text.specs.declared.lines.End.{End}
@@ -67,3 +71,25 @@ sealed a (Faulty f) = wrong f
 
 abbrev pub close : {A : Type 0} → Bool → A → List ℕ → Judged A
 close ordered a r = sealed a (ending ordered r)
+
+-- the fault that a field has as a number
+abbrev pub numberFault : Number → Fault
+numberFault (Value v end) = Form
+numberFault Malformed = Form
+numberFault Outside = Range
+
+-- a word of n bytes found at the front of a line, or not
+abbrev pub stripView : List ℕ → ℕ → Bool → Stripped
+stripView s n true = rest (drop n s)
+stripView s n false = other
+
+-- the line at a place of a text, and its end
+pub record LineAt (s : List ℕ) (at end : ℕ) : Type 0 where
+  pub low : at < end
+  pub high : end ≤ length s
+  pub cuts : lines (drop at s) ≡ take (end - at) (drop at s) ∷ lines (drop end s)
+
+-- where a line ends; past the end of the text no line is left
+pub record LineEnd (s : List ℕ) (at end : ℕ) : Type 0 where
+  pub inside : at < length s → LineAt s at end
+  pub past-end : length s ≤ at → end ≡ at

@@ -1,9 +1,13 @@
 -- Decimal numbers as bytes: the digits of a number, and what stands at the front of a text as a number.
+use mathlib.Core.Path.{_≡_}
 use mathlib.Core.Bool.{Bool, true, false, cond, not, _&&_, _||_}
 use mathlib.Core.List.{List, [], _∷_, _++_}
-use Prim.Native.Nat.{ℕ, zero, suc, _+_, _-_, _*_, _/_, _%_}
+use Prim.Native.Nat.{ℕ, zero, suc, _+_, _-_, _*_, _/_, _%_, _≤_}
 use lib.Dec.{ltb, leb, eqb}
+use lib.ListN.{length, drop}
 use Rattle.text.specs.Bytes.{tab, feed, nought, isDigit}
+use Rattle.text.specs.declared.numbers.Number.{Number}
+use Rattle.text.specs.declared.numbers.Number.the-variants.{Value, Malformed, Outside}
 
 -- the digits of n, at most f of them after the first
 unfoldable pub decimalIn : ℕ → ℕ → List ℕ
@@ -62,3 +66,18 @@ tabbed outside = outside
 
 abbrev pub readField : ℕ → ℕ → List ℕ → Field
 readField lo hi s = tabbed (readNumber lo hi s)
+
+-- the code's answer as a field: a number that ends at a place of the line
+abbrev pub numberView : List ℕ → Number → Field
+numberView s (Value v end) = number v (drop end s)
+numberView s Malformed = malformed
+numberView s Outside = outside
+
+abbrev pub numberIn : List ℕ → Number → Type 0
+numberIn s (Value v end) = end ≤ length s
+numberIn s Malformed = Unit
+numberIn s Outside = Unit
+
+pub record NumberAt (x : Field) (s : List ℕ) (r : Number) : Type 0 where
+  pub reads : numberView s r ≡ x
+  pub inside : numberIn s r

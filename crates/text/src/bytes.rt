@@ -3,8 +3,7 @@ ghost use mathlib.Core.Path.{_≡_};
 ghost use Prim.Native.Nat.{_+_};
 ghost use lib.ListN.{length};
 ghost use Rattle.text.specs.Bytes.{sortOf};
-ghost use Rattle.text.specs.Lines.{stripWord};
-ghost use Rattle.text.specs.Inner.{stripView};
+ghost use Rattle.text.specs.Lines.{stripWord, stripView};
 
 pub enum Sort {
     Digit,

@@ -1,8 +1,7 @@
 // Lines of fields: where a line ends, and the judgement of what stands after its last field.
 ghost use mathlib.Core.Path.{_≡_};
 ghost use lib.ListN.{drop};
-ghost use Rattle.text.specs.Lines.{ending};
-ghost use Rattle.text.specs.Inner.{numberFault, LineEnd};
+ghost use Rattle.text.specs.Lines.{ending, numberFault, LineEnd};
 use crate::bytes::Sort;
 use crate::bytes::sort_of;
 use crate::numbers::Number;

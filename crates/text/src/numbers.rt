@@ -2,8 +2,8 @@
 ghost use mathlib.Core.Path.{_≡_};
 ghost use Prim.Native.Nat.{_≤_};
 ghost use lib.ListN.{length, drop};
-ghost use Rattle.text.specs.Numbers.{readNumber, readField, plain, digits, fieldEnd};
-ghost use Rattle.text.specs.Inner.{RunAt, Ended, NumberAt};
+ghost use Rattle.text.specs.Numbers.{readNumber, readField, plain, digits, fieldEnd, NumberAt};
+ghost use Rattle.text.specs.Inner.{RunAt, Ended};
 use crate::bytes::Sort;
 use crate::bytes::sort_of;
 
