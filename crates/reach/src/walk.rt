@@ -1,9 +1,9 @@
 // The walk along the first roster: at each place the smallest value that leaves a way to the end.
 ghost use mathlib.Core.Path.{_≡_};
 ghost use Prim.Native.Nat.{_+_, _*_, _≤_, _<_};
-ghost use lib.ListN.{length, getD};
+ghost use lib.ListN.{length};
 ghost use Rattle.meaning.specs.Bounds.{mostStates, mostValues, tableSize, top};
-ghost use Rattle.rooms.specs.Tables.{turned, Loaded, Sizes};
+ghost use Rattle.rooms.specs.Tables.{turned, Sizes};
 ghost use Rattle.reach.specs.Looks.{takeable, LowRows, Walks};
 use kinds::Mask;
 use kinds::State;

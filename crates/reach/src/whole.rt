@@ -1,5 +1,4 @@
 // The two passes together, from any state and with any cost spent.
-ghost use mathlib.Core.Path.{_≡_};
 ghost use Rattle.reach.specs.Whole.{Order, FilterRuns, FirstRuns};
 use crate::alone;
 use crate::forward;

@@ -3,7 +3,7 @@
 use mathlib.Core.Path.{_≡_, refl, sym, ap, subst, _∙_}
 use mathlib.Core.Bool.{Bool, true, false}
 use mathlib.Core.List.{List}
-use Prim.Native.Nat.{ℕ, suc, _+_, _*_, _-_, _/_, _%_, _≤_, _<_}
+use Prim.Native.Nat.{ℕ, suc, _+_, _*_, _-_, _/_, _%_, _<_}
 use native.Mathlib.Omega.{arith}
 use native.Mathlib.Decide.{decLt}
 use lib.ListN.{length, getD, drop}
@@ -11,7 +11,7 @@ use lib.Seq.{ext-getD}
 use Rattle.meaning.specs.Bounds.{mostStates}
 use Rattle.meaning.specs.Meaning.{rulesOf, places}
 use Rattle.rules.specs.Answers.{zeros}
-use Rattle.rooms.specs.Tables.{blanked, copied, turned, frame, capped, before, layer, Outside, Prepared, Prepares}
+use Rattle.rooms.specs.Tables.{blanked, copied, turned, capped, before, layer, Outside, Prepared, Prepares}
 use Rattle.rooms.proofs.Rooms.{room-same}
 
 pub blank-unique : (count number : ℕ) (row a b : List ℕ) → a ≡ blanked count number row → b ≡ blanked count number row → a ≡ b
