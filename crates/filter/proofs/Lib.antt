@@ -1,3 +1,4 @@
 pub mod Answering
 pub mod Unique
 pub mod Alike
+pub mod Passes

@@ -26,7 +26,7 @@ use Rattle.job.specs.declared.asks.Days.{Days}
 use Rattle.job.specs.declared.asks.Days.the-variants as the-days
 use Rattle.job.specs.declared.take.Taken.{Taken}
 use Rattle.job.specs.declared.take.Taken.the-variants as the-taken
-use Rattle.job.proofs.Showing.{choiceRight, choices-right, decides-right}
+use Rattle.rules.proofs.Choices.{choiceRight, choices-right, decides-right}
 
 -- the size of a rule set that is right
 pub right-size : (q v s : ℕ) (t c : List ℕ) (a : ℕ) → rulesRight q v s t c a ≡ true → Size q v s

@@ -15,7 +15,7 @@ use Rattle.ledger.proofs.Checked.{lengths-of}
 use Rattle.ledger.proofs.WellFormed.{places-by-long, verdict-by-long}
 use Rattle.ledger.proofs.Demand.{limits-length, opening-passed, demand-3}
 use Rattle.filter.specs.Filter.{filterDone, filterOf}
-use Rattle.machine.proofs.Refreshes.{filter-tells}
+use Rattle.filter.proofs.Passes.{filter-passes}
 
 -- after an opening that is not refused and any calls, each that is not refused handed the opening's rule set
 module _ (h : Handed) (o : Opening) (m w : List ℕ) (cs : List Call) (answered : granted (opened h o m w .answer) ≡ true)
@@ -40,7 +40,7 @@ module _ (h : Handed) (o : Opening) (m w : List ℕ) (cs : List Call) (answered 
       let p = opening-passed h o m w answered in
       let l = lengths-of (h .places) _ _ o (length m) (length w) (p .1 .0) in
       let t = demand-3 h o m w cs answered same in
-      filter-tells h kept (limitsOf (placesBy o ds)) out work (record { sized = p .0; tabled = l .tabled; ruled = p .1 .1 .0; worked = b })
+      filter-passes h kept (limitsOf (placesBy o ds)) out work (p .0) (l .tabled) (p .1 .1 .0) kept-range
       (ap length (t .session-tells .kept) ∙ verdict-by-long h o ds (l .masks-are) (l .limits-are))
-      (limits-length (placesBy o ds) ∙ places-by-long h o ds (l .masks-are) (l .limits-are)) a kept-range
+      (limits-length (placesBy o ds) ∙ places-by-long h o ds (l .masks-are) (l .limits-are)) a b
       ∙ ap (λ (x : Verdict). filterDone x work) (t .session-again)

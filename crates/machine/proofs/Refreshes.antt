@@ -4,18 +4,16 @@ use mathlib.Core.Bool.{Bool, true, _&&_}
 use mathlib.Core.List.{List, [], _∷_, _++_}
 use Prim.Native.Nat.{ℕ, zero, suc, _+_, _^_, _≤_}
 use native.Mathlib.Omega.{arith}
-use lib.Bits.{bitAnd, and-le-l}
-use lib.Dec.{ltb}
 use lib.ListN.{length, getD, drop, take, replicate, length-drop, length-take, length-replicate}
 use lib.Seq.{length-take-le}
 use lib.Pow.{pow-mono}
 use borrow.Author.Tests.{eq-eqb, lt-ltb, ltb-true}
-use Rattle.meaning.specs.Meaning.{Place, place, places, Decision, Keep, Limit, change, decide, decides, Verdict, verdict, verdictOf}
+use Rattle.meaning.specs.Meaning.{Place, places, Verdict, verdict, verdictOf}
 use Rattle.meaning.specs.Lists.{all}
 use Rattle.meaning.specs.Bounds.{mostPlaces}
 use Rattle.rules.specs.Checks.{Handed, masksRight}
 use Rattle.rules.specs.Answers.{decided, zeros}
-use Rattle.rules.proofs.Checks.{both}
+use Rattle.rules.proofs.Choices.{choiceRight, choices-right, decides-right}
 use Rattle.ledger.specs.Sessions.{standing, placesBy, verdictBy}
 use Rattle.ledger.specs.Readiness.{left, renewedBy, Lent}
 use Rattle.ledger.specs.Layout.{openingPlace, shownSize}
@@ -24,35 +22,8 @@ use Rattle.ledger.proofs.Numbers.{and-both, below-more, masks-below}
 use Rattle.ledger.proofs.Image.{held-few, held-room, held-masks, room-long, room-rows}
 use Rattle.machine.specs.Inner.{Compared, Replayable}
 use Rattle.machine.proofs.Ranges.{rows-safe}
-use Rattle.filter.specs.Filter.{Left, left as filtered, lengthsRight, filterDone, filterOf}
-
--- decisions leave masks in range
-module _ (v : ℕ) where
-  abbrev inside : Place → Bool
-  inside p = ltb (p .mask) (2 ^ v)
-
-  places-inside : (ms ls : List ℕ) → length ms ≡ length ls → all inside (places ms ls) ≡ masksRight v ms
-  unfolding places masksRight
-  places-inside [] ls e = refl
-  places-inside (m ∷ ms) [] e = absurd (omega arith)
-  places-inside (m ∷ ms) (l ∷ ls) e = ap (λ (b : Bool). ltb m (2 ^ v) && b) (places-inside ms ls (omega arith))
-
-  change-inside : (f : Place → Place) → ((p : Place) → inside p ≡ true → inside (f p) ≡ true)
-      → (i : ℕ) (ps : List Place) → all inside ps ≡ true → all inside (change f i ps) ≡ true
-  change-inside f g i [] e = e
-  change-inside f g zero (p ∷ ps) e = let b = both (inside p) (all inside ps) e in and-both (inside (f p)) (all inside ps) (g p (b .0)) (b .1)
-  change-inside f g (suc i) (p ∷ ps) e =
-      let b = both (inside p) (all inside ps) e in and-both (inside p) (all inside (change f i ps)) (b .0) (change-inside f g i ps (b .1))
-
-  decides-inside : (ps : List Place) (ds : List Decision) → all inside ps ≡ true → all inside (decides ps ds) ≡ true
-  unfolding decide decides
-  decides-inside ps [] e = e
-  decides-inside ps (Keep i m ∷ ds) e =
-      decides-inside (decide ps (Keep i m)) ds
-      (change-inside (λ p. place (bitAnd (p .mask) m) (p .limit))
-      (λ p h. lt-ltb (bitAnd (p .mask) m) (2 ^ v) (omega (arith, and-le-l (p .mask) m, ltb-true (p .mask) (2 ^ v) h))) i ps e)
-  decides-inside ps (Limit i l ∷ ds) e =
-      decides-inside (decide ps (Limit i l)) ds (change-inside (λ p. place (p .mask) (_)) (λ p h. h) i ps e)
+use Rattle.filter.specs.Filter.{Left, left as filtered, filterDone, filterOf}
+use Rattle.filter.proofs.Passes.{filter-passes}
 
 -- what is held can be replayed
 module _ (n q v start : ℕ) (l : List ℕ) (h : Held n q v start l) where
@@ -69,14 +40,7 @@ module _ (n q v start : ℕ) (l : List ℕ) (h : Held n q v start l) where
             (held-room n q v start l (h .long) (h .right)));
       }
 
--- the filter passes all checks
-module _ (h : Handed) (ms ls kept work : List ℕ) (lent : Lent h work) where
-  pub filter-tells : length ms ≡ h .places → length ls ≡ h .places → length kept ≡ h .places → masksRight (h .rules .arcs .values) ms ≡ true
-      → filterOf h ms ls kept work ≡ filterDone (verdictOf (h .rules) (h .start) 0 (places ms ls)) work
-  unfolding filterOf decided lengthsRight
-  filter-tells a b c d =
-      rw (lent .sized, lent .tabled, eq-eqb _ _ a, eq-eqb _ _ b, eq-eqb _ _ c, eq-eqb _ _ (lent .worked), lent .ruled, d)
-
+-- the filter of what is held passes all checks
 module _ (h : Handed) (l ms ls kept work : List ℕ) (lent : Lent h work)
     (held : Held (h .places) (h .rules .arcs .states) (h .rules .arcs .values) (h .start) l)
     (come : places ms ls ≡ placesBy (openingOf (h .places) l) (standing (entriesOf l))) where
@@ -85,16 +49,16 @@ module _ (h : Handed) (l ms ls kept work : List ℕ) (lent : Lent h work)
   masks-inside e =
       let v = h .rules .arcs .values in
       let s = drop openingPlace l in
-      sym (places-inside v ms ls e) ∙ ap (all (inside v)) come
-      ∙ decides-inside v (places (take (h .places) s) (drop (h .places) s)) _
-      (places-inside v (take (h .places) s) (drop (h .places) s) (simp (length-take, length-drop) (omega (arith, held .long)))
+      choices-right v ms ls e ∙ ap (all (choiceRight v)) come
+      ∙ decides-right v (places (take (h .places) s) (drop (h .places) s)) _
+      (sym (choices-right v (take (h .places) s) (drop (h .places) s) (simp (length-take, length-drop) (omega (arith, held .long))))
       ∙ held-masks (h .places) (h .rules .arcs .states) v (h .start) l (held .long) (held .right))
 
   pub refreshed : length ms ≡ h .places → length ls ≡ h .places → length kept ≡ h .places
       → (x : Left) → x ≡ filterOf h ms ls kept work → x ≡ filterDone (verdictHeld h l) work
   unfolding verdictHeld verdictBy
   refreshed a b c x f =
-      f ∙ filter-tells h ms ls kept work lent a b c (masks-inside (a ∙ sym b))
+      f ∙ filter-passes h ms ls kept work (lent .sized) (lent .tabled) (lent .ruled) (masks-inside (a ∙ sym b)) a b c (lent .worked)
       ∙ ap (λ (ps : List Place). filterDone (verdictOf (h .rules) (h .start) 0 ps) work) come
 
 -- in the memory around what is held
