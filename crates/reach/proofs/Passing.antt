@@ -64,9 +64,8 @@ opened-is {n} {start} {spent} {room} {x} {was} {mid} h l f e = record { right = 
     go q k (no d) = rw (ne-eqb q start d) (getD-set-other mid start q x 0 d ∙ f .done q k)
 
 pub stepped-is : {a : Net} {qs x : ℕ} {vs row front next onward mid front′ next′ onward′ : List ℕ} → Blank qs onward → Filled (λ k. getD row k 0) qs next next′
-    → Keeps a qs vs front next′ x → Spread a qs vs front mid → Filled (λ q. struck (getD mid q 0) (getD next′ q 0)) qs front front′ → Filled (λ k. 366001) qs mid onward′
+    → Keeps a qs vs front next′ x → Spread a qs vs front mid → Filled (λ q. struck (getD mid q 0) (getD next′ q 0)) qs front front′ → Filled (λ k. suc top) qs mid onward′
     → Stepped a qs vs row front next onward front′ next′ onward′ x
-unfolding top
 stepped-is n l k w f b = record {
   loaded = l;
   costs = λ t h. f .done t h ∙ rw (w .right t h, n .none t h);

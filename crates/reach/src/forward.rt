@@ -145,15 +145,16 @@ pub(crate) fn strike(cost: u32, room: u32) -> u32
     if cost < room { cost } else { TOP + 1 }
 }
 
-// The front one place on.
-pub(crate) fn advance(states: usize, onward: &[u32], next: &[u32], front: &mut [u32])
-    requires { ⌜ (states ≤ mostStates) × (states ≤ length (now onward)) × (states ≤ length (now next)) × (states ≤ length (now front)) ⌝ }
-    ensures { λ _. ⌜ Filled (λ q. struck (getD (now (onward .entry)) q 0) (getD (now (next .entry)) q 0)) states (now (front .entry)) (now (front .exit)) ⌝ }
+// The front one place on. The least costs that it is made of are blanked in the same turns, for the next place.
+pub(crate) fn advance(states: usize, next: &[u32], front: &mut [u32], onward: &mut [u32])
+    requires { ⌜ (states ≤ mostStates) × (states ≤ length (now next)) × (states ≤ length (now front)) × (states ≤ length (now onward)) ⌝ }
+    ensures { λ _. ⌜ Filled (λ q. struck (getD (now (onward .entry)) q 0) (getD (now (next .entry)) q 0)) states (now (front .entry)) (now (front .exit)) × Filled (λ q. suc top) states (now (onward .entry)) (now (onward .exit)) ⌝ }
 {
     let mut q = State(0);
     while (q.0 as usize) < states {
         let at = q.0 as usize;
         front[at] = strike(onward[at], next[at]);
+        onward[at] = TOP + 1;
         q = State(q.0 + 1);
     }
 }
@@ -397,8 +398,7 @@ pub(crate) fn step(
         onwards,
         held,
     );
-    advance(states, onward, next, front);
-    rows::blank(states, TOP + 1, onward);
+    advance(states, next, front, onward);
     kept
 }
 

@@ -11,42 +11,54 @@ use lib.Seq.{getD-set-same, getD-set-other, ext-getD}
 use borrow.Author.Tests.{lt-ltb}
 use Rattle.meaning.specs.Bounds.{top}
 use Rattle.rules.specs.Answers.{zeros}
-use Rattle.rooms.specs.Tables.{copied, Net, turned, choices, best, capped, before, Frame, frame, room, layer, Layers, Laid, Loaded, Filled, Matches, Alike, Lays}
+use Rattle.rooms.specs.Tables.{copied, Net, turned, choices, best, capped, before, Frame, frame, room, layer, Layers, Laid, Loaded, Filled, Matches, Clear, free, high, LikeLayer, Lays}
 use borrow.Rule.Slice.PartMut.{putMid, midOf, mid-len}
-use Rattle.rooms.proofs.Filling.{copied-filled, row-part, part-copied, laid-put, laid-outside}
+use Rattle.rooms.proofs.Filling.{copied-filled, row-part, laid-put, laid-outside}
 use Rattle.rooms.proofs.Layering.{drop-places, layer-none, layers-lay, layers-more}
 
 -- a row laid as another one of the table, less a fall
-pub laid-like : (n like fall cap i : ℕ) (work ys next mid now : List ℕ) → n ≤ 64 → i * 64 + 64 ≤ length work → like * 64 + 64 ≤ length work → n ≤ length next → n ≤ length now
-    → length ys ≡ length (midOf (i * 64) (i * 64 + 64 - i * 64) work)
-    → mid ≡ copied n (take (like * 64 + 64 - like * 64) (drop (like * 64) work)) next → Filled (λ k. min cap (getD mid k 0 - fall)) n mid now
+pub laid-like : (n like fall cap i : ℕ) (work ys next now : List ℕ) → n ≤ 64 → i * 64 + 64 ≤ length work → n ≤ length now → length ys ≡ length (midOf (i * 64) (i * 64 + 64 - i * 64) work)
+    → Filled (λ k. min cap (getD (take (like * 64 + 64 - like * 64) (drop (like * 64) work)) k 0 - fall)) n next now
     → ys ≡ copied n now (midOf (i * 64) (i * 64 + 64 - i * 64) work)
     → Laid (λ q. min cap (getD work (like * 64 + q) 0 - fall)) n i work (putMid (i * 64) (i * 64 + 64 - i * 64) work ys)
     × Filled (λ q. min cap (getD work (like * 64 + q) 0 - fall)) n next now
-laid-like n like fall cap i work ys next mid now h l m p o e x b y =
-    (laid-put i (i * 64) work ys h refl l e (record { done = λ q k. c .done q k ∙ done q k; left = c .left }), record { done = done; left = λ k m. b .left k m ∙ a .left k m })
+laid-like n like fall cap i work ys next now h l o e b y =
+    (laid-put i (i * 64) work ys h refl l e (record { done = λ q k. c .done q k ∙ done q k; left = c .left }), record { done = done; left = b .left })
   where
-    a : Filled (λ k. getD (take (like * 64 + 64 - like * 64) (drop (like * 64) work)) k 0) n next mid
-    a = part-copied (like * 64) work h m p x
-
     c : Filled (λ k. getD now k 0) n (midOf (i * 64) (i * 64 + 64 - i * 64) work) ys
     c = copied-filled n now o (omega (arith, mid-len (i * 64) (i * 64 + 64) work l)) y
 
     done : (q : ℕ) → q < n → getD now q 0 ≡ min cap (getD work (like * 64 + q) 0 - fall)
-    done q k = b .done q k ∙ ap (λ (x : ℕ). min cap (x - fall)) (a .done q k ∙ row-part work like (like * 64 + 64 - like * 64) q (omega arith))
+    done q k = b .done q k ∙ ap (λ (x : ℕ). min cap (x - fall)) (row-part work like (like * 64 + 64 - like * 64) q (omega arith))
+
+-- a row that was filled in its place, and then laid as itself behind a limit
+pub laid-over : {g : ℕ → ℕ} {n i : ℕ} (cap : ℕ) (work : List ℕ) {ys is next now : List ℕ} → n ≤ 64 → i * 64 + 64 ≤ length work → length ys ≡ length (midOf (i * 64) (i * 64 + 64 - i * 64) work)
+    → Filled g n (midOf (i * 64) (i * 64 + 64 - i * 64) work) ys
+    → Laid (λ q. min cap (getD (putMid (i * 64) (i * 64 + 64 - i * 64) work ys) (i * 64 + q) 0 - 0)) n i (putMid (i * 64) (i * 64 + 64 - i * 64) work ys) is
+    × Filled (λ q. min cap (getD (putMid (i * 64) (i * 64 + 64 - i * 64) work ys) (i * 64 + q) 0 - 0)) n next now
+    → Laid (λ q. min cap (g q)) n i work is × Filled (λ q. min cap (g q)) n next now
+laid-over {g} {n} {i} cap work {ys} h l e f y = (
+  record { row = λ q k. y .0 .row q k ∙ cut q k; others = λ j q m d. y .0 .others j q m d ∙ r .others j q m d },
+  record { done = λ q k. y .1 .done q k ∙ cut q k; left = y .1 .left },
+)
+  where
+    r : Laid g n i work (putMid (i * 64) (i * 64 + 64 - i * 64) work ys)
+    r = laid-put i (i * 64) work ys h refl l e f
+
+    cut : (q : ℕ) → q < n → min cap (getD (putMid (i * 64) (i * 64 + 64 - i * 64) work ys) (i * 64 + q) 0 - 0) ≡ min cap (g q)
+    cut q k = omega (arith, r .row q k)
 
 -- whether two layers are alike, as the code finds it
-pub alike-not : (n : ℕ) (ms ls : List ℕ) (i like : ℕ) (next work : List ℕ) → Alike n 366002 ms ls i like next work
+pub alike-not : (n : ℕ) (ms ls : List ℕ) (i like : ℕ) (next work : List ℕ) → LikeLayer n 366002 ms ls i like next work
 unfolding top
-alike-not n ms ls i like next work = record { mask = λ e. absurd (omega arith); free = λ e. absurd (omega arith); row = λ e. absurd (omega arith) }
+alike-not n ms ls i like next work = record { mask = λ e. absurd (omega arith); clear = λ e. absurd (omega arith); row = λ e. absurd (omega arith) }
 
-pub alike-is : {n fall : ℕ} {ms ls : List ℕ} {i like : ℕ} {next work : List ℕ} {b : Bool} (cap : ℕ) → n ≤ 64 → getD ms i 0 ≡ getD ms like 0
-    → cap ≡ suc (min (before ls like) top) → 366000 < cap
-    → Matches (λ k. getD (take ((like + 1) * 64 + 64 - (like + 1) * 64) (drop ((like + 1) * 64) work)) k 0 - fall) n next b → b ≡ true → Alike n fall ms ls i like next work
-unfolding top
-alike-is {n} {fall} {ms} {ls} {i} {like} {next} {work} cap h m e k f d = record {
+pub alike-is : {n fall : ℕ} {ms ls : List ℕ} {i like : ℕ} {next work : List ℕ} {b clear : Bool} (cap other : ℕ) → n ≤ 64 → getD ms i 0 ≡ getD ms like 0
+    → cap ≡ suc (min (before ls i) top) → other ≡ suc (min (before ls like) top) → (clear ≡ true → Clear cap other fall) → clear ≡ true
+    → Matches (λ k. getD (take ((like + 1) * 64 + 64 - (like + 1) * 64) (drop ((like + 1) * 64) work)) k 0 - fall) n next b → b ≡ true → LikeLayer n fall ms ls i like next work
+alike-is {n} {fall} {ms} {ls} {i} {like} {next} {work} cap other h m e o t k f d = record {
   mask = λ z. m;
-  free = λ z. omega arith;
+  clear = λ z. rw (e, o) at (t k);
   row = λ z q l. f .is d q l ∙ ap (λ (x : ℕ). x - fall) (row-part work (like + 1) ((like + 1) * 64 + 64 - (like + 1) * 64) q (omega arith));
 }
 
@@ -112,18 +124,20 @@ module _ (f : Frame) (ms ls : List ℕ) (same : length ls ≡ length ms) where
   unfolding layer
   layer-low i q = omega arith
 
-  free-cap : (l x : ℕ) → top ≤ l → x ≤ suc top → capped l x ≡ x
-  free-cap l x h k = omega arith
+  -- a room that fell behind a cap which is out of the way
+  clear-cap : {cap other fall : ℕ} (x : ℕ) → Clear cap other fall → x ≤ suc top → min cap (min other x - fall) ≡ min cap (x - fall)
+  clear-cap x (free h) k = omega arith
+  clear-cap x (high h) k = omega arith
 
-  pub layer-like : (i like fall q : ℕ) → i < length ms → like < length ms → q < f .states → getD ms i 0 ≡ getD ms like 0 → top ≤ before ls like
+  pub layer-like : (i like fall q : ℕ) → i < length ms → like < length ms → q < f .states → getD ms i 0 ≡ getD ms like 0
+      → Clear (suc (min (before ls i) top)) (suc (min (before ls like) top)) fall
       → ((t : ℕ) → t < f .states → layer f ms ls (suc i) t ≡ layer f ms ls (suc like) t - fall)
       → min (suc (min (before ls i) top)) (layer f ms ls like q - fall) ≡ layer f ms ls i q
-  layer-like i like fall q hi hl hq m free row =
+  layer-like i like fall q hi hl hq m t row =
       let n : _≡_ {A = ℕ → ℕ} (layer f ms ls (suc i)) (λ t. layer f ms ls (suc like) t - fall) = λ j t. all t (decLt t (f .states)) j in
       let b = best-falls (f .net) q (layer f ms ls (suc like)) fall (choices (f .values) (getD ms like 0)) in
       let l = best-low (f .net) q (layer f ms ls (suc like)) (suc top) (layer-low (suc like)) (choices (f .values) (getD ms like 0)) in
-      let u = free-cap (before ls like) (best (f .net) (layer f ms ls (suc like)) q (choices (f .values) (getD ms like 0))) free l in
-      rw (layer-best i q hi hq, layer-best like q hl hq, n, m, b, u)
+      rw (layer-best i q hi hq, layer-best like q hl hq, n, m, b) (clear-cap (best (f .net) (layer f ms ls (suc like)) q (choices (f .values) (getD ms like 0))) t l)
     where
       all : (t : ℕ) → Dec (t < f .states) → layer f ms ls (suc i) t ≡ layer f ms ls (suc like) t - fall
       all t (yes h) = row t h
@@ -131,7 +145,7 @@ module _ (f : Frame) (ms ls : List ℕ) (same : length ls ≡ length ms) where
 
 -- layer i, laid as a layer that is alike
 pub lays-like : (a : Net) (qs vs : ℕ) (ms ls : List ℕ) (i like fall cap : ℕ) (next work next′ work′ : List ℕ) → qs ≤ 64 → length ls ≡ length ms → i < like → like < length ms
-    → cap ≡ suc (min (before ls i) top) → Alike qs fall ms ls i like next work → fall ≤ suc top
+    → cap ≡ suc (min (before ls i) top) → LikeLayer qs fall ms ls i like next work → fall ≤ suc top
     → Laid (λ q. min cap (getD work (like * 64 + q) 0 - fall)) qs i work work′ × Filled (λ q. min cap (getD work (like * 64 + q) 0 - fall)) qs next next′
     → Lays a qs vs ms ls i next work next′ work′
 lays-like a qs vs ms ls i like fall cap next work next′ work′ few same hi hl e k t y = record { right = right; beside = laid-outside (omega arith) (y .0) }
@@ -150,7 +164,7 @@ lays-like a qs vs ms ls i like fall cap next work next′ work′ few same hi hl
             sym m ∙ (k .row t q h ∙ ap (λ (x : ℕ). x - fall) n)
 
         is : (q : ℕ) → q < qs → min cap (getD work (like * 64 + q) 0 - fall) ≡ layer f ms ls i q
-        is q h = rw (e, r .0 .right like q (omega arith) (omega arith) h) (layer-like f ms ls same i like fall q (omega arith) hl h (k .mask t) (k .free t) behind)
+        is q h = rw (e, r .0 .right like q (omega arith) (omega arith) h) (layer-like f ms ls same i like fall q (omega arith) hl h (k .mask t) (k .clear t) behind)
 
 pub lays-more : (ts cs : List ℕ) (qs vs : ℕ) (ms ls : List ℕ) (i cap : ℕ) (next work next′ work′ : List ℕ) → qs ≤ 64 → length ls ≡ length ms → i < length ms
     → cap ≡ suc (min (before ls i) top)

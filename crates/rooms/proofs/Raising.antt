@@ -1,18 +1,13 @@
--- A row raised value by value to the best that a mask's values leave.
+-- A row raised to the best that a mask's values leave, four values at once.
 use mathlib.Core.Path.{_≡_, refl, ap, _∙_}
 use mathlib.Core.Bool.{true, false}
 use mathlib.Core.List.{List, [], _∷_}
-use Prim.Native.Nat.{ℕ, _+_, _*_, _-_, _≤_, _<_, min, max}
+use Prim.Native.Nat.{ℕ, _+_, _≤_, _<_, max}
 use native.Mathlib.Numerals.{add-one}
 use native.Mathlib.Omega.{arith}
-use lib.ListN.{getD, take, drop}
+use lib.ListN.{getD}
 use Rattle.kinds.specs.Bits.{bit}
-use Rattle.rooms.specs.Tables.{Filled, turned, down, choices, best}
-use Rattle.rooms.proofs.Filling.{part-at}
-
--- nothing less
-less-none : (x : ℕ) → x - 0 ≡ x
-less-none x = omega arith
+use Rattle.rooms.specs.Tables.{Net, Filled, down, choices, leaves, best, Best, Held, none, one, two, three, RaisesOn, RaisesRest}
 
 -- one value more of the mask, or not
 pub choices-none : (m : ℕ) → choices 0 m ≡ []
@@ -27,29 +22,91 @@ pub choices-skip : (v m : ℕ) → bit m v ≡ false → choices (v + 1) m ≡ c
 unfolding choices down
 choices-skip v m e = rw (add-one, e)
 
-module _ (ts cs : List ℕ) (next : ℕ → ℕ) (n m : ℕ) where
-  pub raised-none : {was : List ℕ} → ((k : ℕ) → k < n → getD was k 0 ≡ 0) → Filled (λ q. best (turned ts cs) next q (choices 0 m)) n was was
+module _ (a : Net) (next : ℕ → ℕ) (n : ℕ) {x y z : ℕ} {row : List ℕ} where
+  -- a value that waits beside the others
+  pub waits-more : {h : ℕ} (v : ℕ) → h < 3 → v < 16 → x < 16 → y < 16 → RaisesOn a next n h x y z v (h + 1) v x y row row
+  waits-more {h} v k e f g = record { few = (e, f, g); goes = go; left = λ q l. refl }
+    where
+      go : (vs : List ℕ) → Held a next n h x y z vs row → Held a next n (h + 1) v x y (v ∷ vs) row
+      go vs (none d b) = one vs (omega arith) refl b
+      go vs (one us d e b) = two us (omega arith) (ap (λ (l : List ℕ). v ∷ l) e) b
+      go vs (two us d e b) = three us (omega arith) (ap (λ (l : List ℕ). v ∷ l) e) b
+      go vs (three us d e b) = absurd (omega arith)
+
+  -- a fourth value
+  pub raises-four : {h : ℕ} {row′ : List ℕ} (v : ℕ) → 3 ≤ h → Filled (λ q. max (leaves a next q v) (max (leaves a next q x) (max (leaves a next q y) (max (leaves a next q z) (getD row q 0))))) n row row′
+      → RaisesOn a next n h x y z v 0 0 0 0 row row′
   unfolding best
-  raised-none h = record { done = λ k l. rw choices-none (h k l); left = λ k l. refl }
+  raises-four {h} v k f = record { few = (omega arith, omega arith, omega arith); goes = λ vs w. none refl (record { is = λ q l. f .done q l ∙ go vs w q l }); left = f .left }
+    where
+      go : (vs : List ℕ) → Held a next n h x y z vs row → (q : ℕ) → q < n
+          → max (leaves a next q v) (max (leaves a next q x) (max (leaves a next q y) (max (leaves a next q z) (getD row q 0)))) ≡ best a next q (v ∷ vs)
+      go vs (none d b) q l = absurd (omega arith)
+      go vs (one us d e b) q l = absurd (omega arith)
+      go vs (two us d e b) q l = absurd (omega arith)
+      go vs (three us d e b) q l = rw (e, b .is q l)
 
-  pub raised-more : (v at k : ℕ) {was row mid is : List ℕ} → bit m v ≡ true → at ≡ v * 64 → n ≤ k
-      → Filled (λ q. best (turned ts cs) next q (choices v m)) n was row
-      → Filled (λ q. max (next (getD (take k (drop at ts)) q 0) - getD (take k (drop at cs)) q 0) (getD row q 0)) n row mid
-      → is ≡ mid → Filled (λ q. best (turned ts cs) next q (choices (v + 1) m)) n was is
-  unfolding best turned
-  raised-more v at k {was} {row} {mid} {is} e f h a b d = record {
-    done = λ q l. rw (d, choices-more v m e) (b .done q l ∙ rw (part-at ts at v k q f (omega arith), part-at cs at v k q f (omega arith), a .done q l));
-    left = λ q l. rw d (b .left q l ∙ a .left q l);
-  }
+  -- those that are left: none, one, two, three
+  pub rest-none : {h : ℕ} → h ≡ 0 → RaisesRest a next n h x y z row row
+  rest-none {h} k = record { goes = go; left = λ q l. refl }
+    where
+      go : (vs : List ℕ) → Held a next n h x y z vs row → Best a next n vs row
+      go vs (none d b) = b
+      go vs (one us d e b) = absurd (omega arith)
+      go vs (two us d e b) = absurd (omega arith)
+      go vs (three us d e b) = absurd (omega arith)
 
-  pub raised-skip : (v : ℕ) {was row is : List ℕ} → bit m v ≡ false → Filled (λ q. best (turned ts cs) next q (choices v m)) n was row
-      → is ≡ row → Filled (λ q. best (turned ts cs) next q (choices (v + 1) m)) n was is
-  raised-skip v e a d = rw (d, choices-skip v m e) a
+  pub rest-one : {h : ℕ} {row′ : List ℕ} → h ≡ 1 → Filled (λ q. max (leaves a next q x) (getD row q 0)) n row row′ → RaisesRest a next n h x y z row row′
+  unfolding best
+  rest-one {h} k f = record { goes = λ vs w. record { is = λ q l. f .done q l ∙ go vs w q l }; left = f .left }
+    where
+      go : (vs : List ℕ) → Held a next n h x y z vs row → (q : ℕ) → q < n → max (leaves a next q x) (getD row q 0) ≡ best a next q vs
+      go vs (none d b) q l = absurd (omega arith)
+      go vs (one us d e b) q l = rw (e, b .is q l)
+      go vs (two us d e b) q l = absurd (omega arith)
+      go vs (three us d e b) q l = absurd (omega arith)
 
-  -- the row blanked, raised and cut
-  pub raised-end : (cap : ℕ) {v vs : ℕ} {f : ℕ → ℕ} {was row mid is : List ℕ} → Filled f n was row → Filled (λ q. best (turned ts cs) next q (choices v m)) n row mid
-      → Filled (λ q. min cap (getD mid q 0 - 0)) n mid is → v ≤ vs → vs ≤ v
-      → Filled (λ q. min cap (best (turned ts cs) next q (choices vs m))) n was is
-  raised-end cap {v} {vs} a b c h k =
+  pub rest-two : {h : ℕ} {row′ : List ℕ} → h ≡ 2 → Filled (λ q. max (leaves a next q x) (max (leaves a next q y) (getD row q 0))) n row row′ → RaisesRest a next n h x y z row row′
+  unfolding best
+  rest-two {h} k f = record { goes = λ vs w. record { is = λ q l. f .done q l ∙ go vs w q l }; left = f .left }
+    where
+      go : (vs : List ℕ) → Held a next n h x y z vs row → (q : ℕ) → q < n → max (leaves a next q x) (max (leaves a next q y) (getD row q 0)) ≡ best a next q vs
+      go vs (none d b) q l = absurd (omega arith)
+      go vs (one us d e b) q l = absurd (omega arith)
+      go vs (two us d e b) q l = rw (e, b .is q l)
+      go vs (three us d e b) q l = absurd (omega arith)
+
+  pub rest-three : {h : ℕ} {row′ : List ℕ} → (h ≡ 0 → ⊥) → (h ≡ 1 → ⊥) → (h ≡ 2 → ⊥)
+      → Filled (λ q. max (leaves a next q x) (max (leaves a next q y) (max (leaves a next q z) (getD row q 0)))) n row row′ → RaisesRest a next n h x y z row row′
+  unfolding best
+  rest-three {h} k i j f = record { goes = λ vs w. record { is = λ q l. f .done q l ∙ go vs w q l }; left = f .left }
+    where
+      go : (vs : List ℕ) → Held a next n h x y z vs row → (q : ℕ) → q < n → max (leaves a next q x) (max (leaves a next q y) (max (leaves a next q z) (getD row q 0))) ≡ best a next q vs
+      go vs (none d b) q l = absurd (k d)
+      go vs (one us d e b) q l = absurd (i d)
+      go vs (two us d e b) q l = absurd (j d)
+      go vs (three us d e b) q l = rw (e, b .is q l)
+
+-- a row on its way through a mask: raised by the values below v, save those that wait; behind n as it was
+pub record Going (a : Net) (next : ℕ → ℕ) (n h x y z m v : ℕ) (was row : List ℕ) : Type 0 where
+  pub few : (x < 16) × (y < 16) × (z < 16)
+  pub held : Held a next n h x y z (choices v m) row
+  pub left : (q : ℕ) → n ≤ q → getD row q 0 ≡ getD was q 0
+
+module _ (a : Net) (next : ℕ → ℕ) (n m : ℕ) where
+  pub going-none : {was row : List ℕ} → Filled (λ k. 0) n was row → Going a next n 0 0 0 0 m 0 was row
+  unfolding best
+  going-none f = record { few = (omega arith, omega arith, omega arith); held = none refl (record { is = λ q l. rw choices-none (f .done q l) }); left = f .left }
+
+  pub going-more : (v : ℕ) {h x y z h′ x′ y′ z′ : ℕ} {was row row′ : List ℕ} → bit m v ≡ true → Going a next n h x y z m v was row
+      → RaisesOn a next n h x y z v h′ x′ y′ z′ row row′ → Going a next n h′ x′ y′ z′ m (v + 1) was row′
+  going-more v e g r = record { few = r .few; held = rw (choices-more v m e) (r .goes (choices v m) (g .held)); left = λ q l. r .left q l ∙ g .left q l }
+
+  pub going-skip : (v : ℕ) {h x y z : ℕ} {was row : List ℕ} → bit m v ≡ false → Going a next n h x y z m v was row → Going a next n h x y z m (v + 1) was row
+  going-skip v e g = record { few = g .few; held = rw (choices-skip v m e) (g .held); left = g .left }
+
+  pub going-end : {v vs h x y z : ℕ} {was row is : List ℕ} → v ≤ vs → vs ≤ v → Going a next n h x y z m v was row → RaisesRest a next n h x y z row is
+      → Filled (λ q. best a next q (choices vs m)) n was is
+  going-end {v} {vs} h k g r =
       let e : v ≡ vs = omega arith in
-      record { done = λ q l. c .done q l ∙ (ap (min cap) (less-none _) ∙ rw (b .done q l, e)); left = λ q l. c .left q l ∙ (b .left q l ∙ a .left q l) }
+      record { done = λ q l. rw (← e) (r .goes (choices v m) (g .held) .is q l); left = λ q l. r .left q l ∙ g .left q l }

@@ -58,9 +58,34 @@ pub record Filled (f : ℕ → ℕ) (n : ℕ) (was is : List ℕ) : Type 0 where
 
 -- BACKWARD. The room of a state: one more than the greatest cost already spent at which some roster goes on from there, 0 where none
 -- does. The best that some values leave, where `next` has the rooms one place on:
+abbrev pub leaves : Net → (ℕ → ℕ) → ℕ → ℕ → ℕ
+leaves a next q v = next (a .to q v) - a .fee q v
+
 unfoldable pub best : Net → (ℕ → ℕ) → ℕ → List ℕ → ℕ
 best a next q [] = 0
-best a next q (v ∷ vs) = max (next (a .to q v) - a .fee q v) (best a next q vs)
+best a next q (v ∷ vs) = max (leaves a next q v) (best a next q vs)
+
+-- a row that is the best that some values leave
+pub record Best (a : Net) (next : ℕ → ℕ) (n : ℕ) (vs row : List ℕ) : Type 0 where
+  pub is : (q : ℕ) → q < n → getD row q 0 ≡ best a next q vs
+
+-- the same for all but the last values: those wait, three at most, the last one first
+pub data Held (a : Net) (next : ℕ → ℕ) (n h x y z : ℕ) (vs row : List ℕ) : Type 0 where
+  none : h ≡ 0 → Best a next n vs row → Held a next n h x y z vs row
+  one : (us : List ℕ) → h ≡ 1 → vs ≡ x ∷ us → Best a next n us row → Held a next n h x y z vs row
+  two : (us : List ℕ) → h ≡ 2 → vs ≡ x ∷ (y ∷ us) → Best a next n us row → Held a next n h x y z vs row
+  three : (us : List ℕ) → h ≡ 3 → vs ≡ x ∷ (y ∷ (z ∷ us)) → Best a next n us row → Held a next n h x y z vs row
+
+-- value v more, whatever values were there before
+pub record RaisesOn (a : Net) (next : ℕ → ℕ) (n h x y z v h′ x′ y′ z′ : ℕ) (row row′ : List ℕ) : Type 0 where
+  pub few : (x′ < mostValues) × (y′ < mostValues) × (z′ < mostValues)
+  pub goes : (vs : List ℕ) → Held a next n h x y z vs row → Held a next n h′ x′ y′ z′ (v ∷ vs) row′
+  pub left : (q : ℕ) → n ≤ q → getD row′ q 0 ≡ getD row q 0
+
+-- none waits any more
+pub record RaisesRest (a : Net) (next : ℕ → ℕ) (n h x y z : ℕ) (row row′ : List ℕ) : Type 0 where
+  pub goes : (vs : List ℕ) → Held a next n h x y z vs row → Best a next n vs row′
+  pub left : (q : ℕ) → n ≤ q → getD row′ q 0 ≡ getD row q 0
 
 -- a room as the step into it has it, with that step's limit
 abbrev pub capped : ℕ → ℕ → ℕ
@@ -101,10 +126,15 @@ pub record Loaded (g : ℕ → ℕ) (n : ℕ) (next : List ℕ) : Type 0 where
 pub record Matches (f : ℕ → ℕ) (n : ℕ) (row : List ℕ) (found : Bool) : Type 0 where
   pub is : found ≡ true → (k : ℕ) → k < n → getD row k 0 ≡ f k
 
--- a layer that is another one less a fall, if it is no greater than a fall can be: the same mask, no limit there, and the row behind it less the fall
-pub record Alike (n fall : ℕ) (ms ls : List ℕ) (i like : ℕ) (next work : List ℕ) : Type 0 where
+-- a layer's cap that is out of the way once the layer has fallen: there is no limit, or it has not fallen below the cap that comes now
+pub data Clear (cap other fall : ℕ) : Type 0 where
+  free : top < other → Clear cap other fall
+  high : cap ≤ other - fall → Clear cap other fall
+
+-- a layer that is another one less a fall, if it is no greater than a fall can be: the same mask, the row behind it less the fall, and no cap in the way
+pub record LikeLayer (n fall : ℕ) (ms ls : List ℕ) (i like : ℕ) (next work : List ℕ) : Type 0 where
   pub mask : fall ≤ suc top → getD ms i 0 ≡ getD ms like 0
-  pub free : fall ≤ suc top → top ≤ before ls like
+  pub clear : fall ≤ suc top → Clear (suc (min (before ls i) top)) (suc (min (before ls like) top)) fall
   pub row : fall ≤ suc top → (q : ℕ) → q < n → getD next q 0 ≡ getD work ((like + 1) * mostStates + q) 0 - fall
 
 -- layer i laid before the layers behind it, whatever states accept

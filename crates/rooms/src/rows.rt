@@ -66,14 +66,14 @@ pub(crate) fn fallen(count: usize, fall: u32, from: &[u32], row: &[u32]) -> bool
     true
 }
 
-// A row less a fall, cut at the limit of the step into it.
-pub(crate) fn lower(count: usize, fall: u32, cap: u32, row: &mut [u32])
-    requires { ⌜ count ≤ length (now row) ⌝ }
-    ensures { λ _. ⌜ Filled (λ k. min cap (getD (now (row .entry)) k 0 - fall)) count (now (row .entry)) (now (row .exit)) ⌝ }
+// The first places of a row, as another has them less a fall, cut at the limit of the step into it.
+pub(crate) fn lower(count: usize, fall: u32, cap: u32, from: &[u32], row: &mut [u32])
+    requires { ⌜ (count ≤ length (now from)) × (count ≤ length (now row)) ⌝ }
+    ensures { λ _. ⌜ Filled (λ k. min cap (getD (now (from .entry)) k 0 - fall)) count (now (row .entry)) (now (row .exit)) ⌝ }
 {
     let mut n: usize = 0;
     while n < count {
-        row[n] = lesser(cap, less(row[n], fall));
+        row[n] = lesser(cap, less(from[n], fall));
         n += 1;
     }
 }

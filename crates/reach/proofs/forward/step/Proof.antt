@@ -1,9 +1,9 @@
 use mathlib.Core.Path.{_∙_}
 use Rattle.reach.proofs.Living.{rooms-copied}
 use Rattle.reach.proofs.Passing.{stepped-is}
-use Rattle.rooms.proofs.Filling.{blanked-filled, copied-filled}
-use borrow.Author.Needs.{needs}
+use Rattle.rooms.proofs.Filling.{copied-filled}
 use native.Mathlib.Omega.{arith}
+use borrow.Author.Needs.{needs}
 use Rattle.reach.proofs.forward.step.Statement.{statement}
 use Rattle.reach.proofs.forward.step.Tie as tie
 
@@ -20,19 +20,13 @@ spread-requires c κs = let p = c .before .before .before .before .before .befor
 
 advance-requires : tie.Need-advance-requires
 advance-requires c κs = let p = c .before .before .before .before .before .before .before .before .before .before .before .before .before .before .before .before .before .before .before .before .before .before .before .before .before .before .before .before .before .before .before .before .before .before .before .before .before .before .pre in
-    (p .1, omega (arith, c .before .before .before .before .before .before .before .before .before .before .before .spread .kept .1 .1 .1 .1 .1 .1 .1 .1 .1 .0, p .1, p .11), omega (arith, c .before .before .before .before .before .before .before .before .before .before .before .before .before .before .before .before .before .before .before .before .before .before .before .before .before .before .copy .kept .1 .1 .0, p .1, p .10), p .9)
-
-add-blank : tie.Need-add-blank
-add-blank c = search needs
-
-blank-requires : tie.Need-blank-requires
-blank-requires c κs = search needs
+    (p .1, omega (arith, c .before .before .before .before .before .before .before .before .before .before .before .before .before .before .before .before .before .before .before .before .before .before .before .before .before .before .copy .kept .1 .1 .0, p .1, p .10), p .9, omega (arith, c .before .before .before .before .before .before .before .before .before .before .before .spread .kept .1 .1 .1 .1 .1 .1 .1 .1 .1 .0, p .1, p .11))
 
 same-length : tie.Need-same-length
 same-length c = search needs
 
 same-length-2 : tie.Need-same-length-2
-same-length-2 c = c .before .before .before .before .before .before .before .before .before .before .before .before .before .before .before .before .before .before .before .before .before .before .before .before .before .before .before .before .before .before .before .before .before .copy .kept .1 .1 .0
+same-length-2 c = c .before .before .before .before .before .before .before .before .before .before .before .before .before .before .before .before .before .before .before .before .before .before .before .before .before .before .before .before .before .before .before .copy .kept .1 .1 .0
 
 same-length-3 : tie.Need-same-length-3
 same-length-3 c = search needs
@@ -50,9 +44,9 @@ same-length-7 : tie.Need-same-length-7
 same-length-7 c = search needs
 
 returns : tie.Need-returns
-returns c = let p = c .before .before .before .before .before .before .before .before .before .before .before .before .before .before .before .before .before .before .before .before .before .before .before .before .before .before .before .before .before .before .before .before .before .before .before .before .before .before .before .before .before .before .before .before .before .pre in
-    let s = c .before .before .before .before .before .before .before .before .before .before .before .before .before .before .before .before .before .before .spread in
-    (stepped-is (p .19) (copied-filled _ _ (p .6) (omega (arith, p .1, p .10)) (c .before .before .before .before .before .before .before .before .before .before .before .before .before .before .before .before .before .before .before .before .before .before .before .before .before .before .before .before .before .before .before .before .before .copy .ensures)) (c .before .before .before .before .before .before .before .before .before .before .before .before .before .before .before .before .before .before .before .before .before .before .before .before .before .before .before .keep .ensures) (s .ensures .2) (c .before .before .before .before .before .before .advance .ensures) (blanked-filled _ _ (omega (arith, s .kept .1 .1 .1 .1 .1 .1 .1 .1 .1 .0, p .1, p .11)) (c .before .before .blank .ensures)), s .ensures .0, s .ensures .1, s .ensures .3)
+returns c = let p = c .before .before .before .before .before .before .before .before .before .before .before .before .before .before .before .before .before .before .before .before .before .before .before .before .before .before .before .before .before .before .before .before .before .before .before .before .before .before .before .before .before .before .before .pre in
+    let s = c .before .before .before .before .before .before .before .before .before .before .before .before .before .before .before .before .spread in
+    (stepped-is (p .19) (copied-filled _ _ (p .6) (omega (arith, p .1, p .10)) (c .before .before .before .before .before .before .before .before .before .before .before .before .before .before .before .before .before .before .before .before .before .before .before .before .before .before .before .before .before .before .before .copy .ensures)) (c .before .before .before .before .before .before .before .before .before .before .before .before .before .before .before .before .before .before .before .before .before .before .before .before .before .keep .ensures) (s .ensures .2) (c .before .before .before .before .advance .ensures .0) (c .before .before .before .before .advance .ensures .1), s .ensures .0, s .ensures .1, s .ensures .3)
 
 pub step-spec : {M : Type 1} → statement M
 step-spec =
@@ -62,8 +56,6 @@ step-spec =
     keep-requires
     spread-requires
     advance-requires
-    add-blank
-    blank-requires
     same-length
     same-length-2
     same-length-3

@@ -1,4 +1,6 @@
+use mathlib.Core.Path.{refl}
 use Rattle.rooms.proofs.Falling.{alike-not, alike-is}
+use Rattle.rules.proofs.Checks.{test-passed}
 use borrow.Author.Needs.{needs}
 use Rattle.rooms.proofs.backward.fall_to.Statement.{statement}
 use Rattle.rooms.proofs.backward.fall_to.Tie as tie
@@ -21,17 +23,20 @@ add-result c = search needs
 returns : tie.Need-returns
 returns c = alike-not _ _ _ _ _ _ _
 
+fall-from-requires : tie.Need-fall-from-requires
+fall-from-requires c κs = search needs
+
 cap-at-requires : tie.Need-cap-at-requires
 cap-at-requires c κs = search needs
+
+clear-of-requires : tie.Need-clear-of-requires
+clear-of-requires c κs = search needs
 
 add-result-2 : tie.Need-add-result-2
 add-result-2 c = search needs
 
 returns-2 : tie.Need-returns-2
 returns-2 c = alike-not _ _ _ _ _ _ _
-
-fall-from-requires : tie.Need-fall-from-requires
-fall-from-requires c κs = search needs
 
 add-at : tie.Need-add-at
 add-at c = search needs
@@ -58,7 +63,7 @@ fallen-requires : tie.Need-fallen-requires
 fallen-requires c κs = search needs
 
 returns-3 : tie.Need-returns-3
-returns-3 c = alike-is _ (c .before .before .before .before .before .before .before .before .before .before .before .before .before .pre .0) (c .before .before .before .before .before .before .if1 .left) (c .before .before .before .before .before .cap-at .ensures) (c .before .before .before .before .if2 .left) (c .before .fallen .ensures) (c .if3 .taken)
+returns-3 c = alike-is _ _ (c .before .before .before .before .before .before .before .before .before .before .before .before .before .before .pre .0) (c .before .before .before .before .before .before .before .if1 .left) (c .before .before .before .before .before .before .before .before .before .before .before .before .before .before .pre .1) (c .before .before .before .before .before .cap-at .ensures) (c .before .before .before .before .clear-of .ensures) (test-passed refl (c .before .before .before .if2 .left)) (c .before .fallen .ensures) (c .if3 .taken)
 
 add-result-3 : tie.Need-add-result-3
 add-result-3 c = search needs
@@ -76,10 +81,11 @@ fall-to-spec =
     shared-slice-read-if1-2
     add-result
     returns
+    fall-from-requires
     cap-at-requires
+    clear-of-requires
     add-result-2
     returns-2
-    fall-from-requires
     add-at
     mul-at
     add-end

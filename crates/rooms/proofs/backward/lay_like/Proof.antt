@@ -10,6 +10,27 @@ mul-from c = search needs
 add-until : tie.Need-add-until
 add-until c = search needs
 
+mul-lower : tie.Need-mul-lower
+mul-lower c = search needs
+
+sub-lower : tie.Need-sub-lower
+sub-lower c = search needs
+
+part-lower-start : tie.Need-part-lower-start
+part-lower-start c = search needs
+
+part-lower-end : tie.Need-part-lower-end
+part-lower-end c = search needs
+
+lower-requires : tie.Need-lower-requires
+lower-requires c κs = search needs
+
+mul-at : tie.Need-mul-at
+mul-at c = search needs
+
+add-end : tie.Need-add-end
+add-end c = search needs
+
 mul-copy : tie.Need-mul-copy
 mul-copy c = search needs
 
@@ -25,30 +46,6 @@ part-copy-end c = search needs
 copy-requires : tie.Need-copy-requires
 copy-requires c κs = search needs
 
-lower-requires : tie.Need-lower-requires
-lower-requires c κs = search needs
-
-mul-at : tie.Need-mul-at
-mul-at c = search needs
-
-add-end : tie.Need-add-end
-add-end c = search needs
-
-mul-copy-2 : tie.Need-mul-copy-2
-mul-copy-2 c = search needs
-
-sub-copy-2 : tie.Need-sub-copy-2
-sub-copy-2 c = search needs
-
-part-copy-start-2 : tie.Need-part-copy-start-2
-part-copy-start-2 c = search needs
-
-part-copy-end-2 : tie.Need-part-copy-end-2
-part-copy-end-2 c = search needs
-
-copy-requires-2 : tie.Need-copy-requires-2
-copy-requires-2 c κs = search needs
-
 same-length : tie.Need-same-length
 same-length c = search needs
 
@@ -56,7 +53,8 @@ same-length-2 : tie.Need-same-length-2
 same-length-2 c = search needs
 
 returns : tie.Need-returns
-returns c = laid-like _ _ _ _ _ _ _ _ _ _ (c .before .before .before .before .before .before .before .before .before .before .before .before .before .before .before .before .before .pre .0) (c .before .before .before .before .before .before .before .before .before .before .before .before .before .before .before .before .before .pre .4) (c .before .before .before .before .before .before .before .before .before .before .before .before .before .before .before .before .before .pre .5) (omega (arith, c .before .before .before .before .before .before .before .before .before .before .before .before .before .before .before .before .before .pre .0, c .before .before .before .before .before .before .before .before .before .before .before .before .before .before .before .before .before .pre .1)) (omega (arith, c .before .before .before .before .before .before .before .before .before .before .before .before .before .before .before .before .before .pre .0, c .before .before .before .before .before .before .before .before .before .before .before .before .before .before .before .before .before .pre .1, c .before .before .before .before .before .before .before .before .before .before .before .copy .kept .1 .1 .0, c .before .before .before .before .before .before .before .lower .kept .1 .1 .1 .0)) (c .before .before .copy2 .kept .1 .1 .0) (c .before .before .before .before .before .before .before .before .before .before .before .copy .ensures) (c .before .before .before .before .before .before .before .lower .ensures) (c .before .before .copy2 .ensures)
+returns c = let p = c .before .before .before .before .before .before .before .before .before .before .before .before .before .pre in
+    laid-like _ _ _ _ _ _ _ _ _ (p .0) (p .4) (omega (arith, p .0, p .1, c .before .before .before .before .before .before .before .lower .kept .1 .1 .1 .1 .0)) (c .before .before .copy .kept .1 .1 .0) (c .before .before .before .before .before .before .before .lower .ensures) (c .before .before .copy .ensures)
 
 pub lay-like-spec : {M : Type 1} → statement M
 lay-like-spec =
@@ -64,19 +62,18 @@ lay-like-spec =
     (tie.spec
     mul-from
     add-until
+    mul-lower
+    sub-lower
+    part-lower-start
+    part-lower-end
+    lower-requires
+    mul-at
+    add-end
     mul-copy
     sub-copy
     part-copy-start
     part-copy-end
     copy-requires
-    lower-requires
-    mul-at
-    add-end
-    mul-copy-2
-    sub-copy-2
-    part-copy-start-2
-    part-copy-end-2
-    copy-requires-2
     same-length
     same-length-2
     returns)

@@ -3,16 +3,16 @@ use mathlib.Core.Path.{_≡_, refl}
 use lib.ListN.{length, length-set, getD}
 use Rattle.rooms.specs.Tables.{Filled}
 use Rattle.rooms.proofs.Filling.{filled-none, filled-more, filled-end}
-use borrow.Author.Needs.{needs}
 use native.Mathlib.Omega.{arith}
+use borrow.Author.Needs.{needs}
 use Rattle.rooms.proofs.rows.lower.Statement.{statement}
 use Rattle.rooms.proofs.rows.lower.Tie as tie
 
 abbrev Inv-loop : tie.InvT-loop
-Inv-loop count fall cap row₀ n₀ row n = (n ≤ count) × (length row ≡ length row₀) × Filled (λ (j : ℕ). min cap (getD row₀ j 0 - fall)) n row₀ row
+Inv-loop count fall cap from row₀ n₀ row n = (n ≤ count) × (length row ≡ length row₀) × Filled (λ (j : ℕ). min cap (getD from j 0 - fall)) n row₀ row
 
 abbrev μ-loop : tie.MeasureT-loop
-μ-loop count fall cap row₀ n₀ row n = count - n
+μ-loop count fall cap from row₀ n₀ row n = count - n
 
 loop-holds : tie.Need-loop-holds Inv-loop μ-loop
 loop-holds c = (omega arith, refl, filled-none _ _)
@@ -20,8 +20,8 @@ loop-holds c = (omega arith, refl, filled-none _ _)
 mul-less : tie.Need-mul-less Inv-loop μ-loop
 mul-less c = search needs
 
-slice-read-less : tie.Need-slice-read-less Inv-loop μ-loop
-slice-read-less c = search needs
+shared-slice-read-less : tie.Need-shared-slice-read-less Inv-loop μ-loop
+shared-slice-read-less c = search needs
 
 less-requires : tie.Need-less-requires Inv-loop μ-loop
 less-requires c κs = search needs
@@ -42,7 +42,7 @@ loop-less : tie.Need-loop-less Inv-loop μ-loop
 loop-less c = search needs
 
 loop-again : tie.Need-loop-again Inv-loop μ-loop
-loop-again c = (omega arith, simp length-set (c .before .before .before .before .loop .inv .1), filled-more _ (omega arith) (c .before .before .before .before .loop .inv .2) (omega (arith, c .lesser .ensures, c .before .less .ensures, c .before .before .before .before .loop .inv .2 .left (c .before .before .before .before .loop .n) (omega arith))))
+loop-again c = (omega arith, simp length-set (c .before .before .before .before .loop .inv .1), filled-more _ (omega arith) (c .before .before .before .before .loop .inv .2) (omega (arith, c .lesser .ensures, c .before .less .ensures)))
 
 same-length : tie.Need-same-length Inv-loop μ-loop
 same-length c = c .before .loop .inv .1
@@ -58,7 +58,7 @@ lower-spec =
     μ-loop
     loop-holds
     mul-less
-    slice-read-less
+    shared-slice-read-less
     less-requires
     lesser-requires
     mul-row
