@@ -13,6 +13,8 @@ pub enum Scale {
     /// Brute force is feasible.
     Small,
     Middle,
+    /// Few states, so that many arcs lead into each, and up to the paper's most values.
+    Wide,
     /// Up to the paper's sizes.
     Full,
 }
@@ -23,6 +25,7 @@ impl Scale {
         match self {
             Scale::Small => (6, 6, 4),
             Scale::Middle => (20, 12, 6),
+            Scale::Wide => (30, 8, MOST_VALUES),
             Scale::Full => (MOST_PLACES, MOST_STATES, MOST_VALUES),
         }
     }
@@ -31,7 +34,8 @@ impl Scale {
     pub fn any(random: &mut Random) -> Scale {
         match random.below(100) {
             0..=2 => Scale::Full,
-            3..=14 => Scale::Middle,
+            3..=10 => Scale::Wide,
+            11..=20 => Scale::Middle,
             _ => Scale::Small,
         }
     }
@@ -80,8 +84,10 @@ pub fn rules(random: &mut Random, scale: Scale) -> Rules {
     };
     let arcs_in_100 = random.pick(&[30, 60, 90, 100]);
     let most_cost = random.pick(&[0, 1, 3, 20, MOST_COST, MOST_COST]);
+    // Now and then all arcs lead into a few states.
+    let ends = random.pick(&[states, states, states.div_ceil(2), states.div_ceil(8)]);
     for place in 0..states * values {
-        let arc = random.percent(arcs_in_100).then(|| random_arc(random, states, most_cost));
+        let arc = random.percent(arcs_in_100).then(|| random_arc(random, ends, most_cost));
         (rules.targets[place], rules.costs[place]) = arc.unwrap_or((NO_ARC, 0));
     }
     rules
@@ -91,8 +97,8 @@ fn states_mask(states: usize) -> u64 {
     u64::MAX >> (MOST_STATES - states)
 }
 
-fn random_arc(random: &mut Random, states: usize, most_cost: u16) -> (u8, u16) {
-    let target = random.below(states) as u8;
+fn random_arc(random: &mut Random, ends: usize, most_cost: u16) -> (u8, u16) {
+    let target = random.below(ends) as u8;
     (target, random.below(usize::from(most_cost) + 1) as u16)
 }
 
