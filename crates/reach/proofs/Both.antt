@@ -2,32 +2,47 @@
 use mathlib.Core.Path.{_≡_, refl, sym, _∙_}
 use mathlib.Core.Bool.{Bool, false, false≢true}
 use mathlib.Core.List.{List}
-use Prim.Native.Nat.{ℕ, suc, _+_, _*_, _≤_, _<_}
+use Prim.Native.Nat.{ℕ, _≤_, _<_}
 use native.Mathlib.Omega.{arith}
 use lib.Dec.{eqb}
 use lib.ListN.{length, getD}
 use borrow.Author.Tests.{eq-eqb, eqb-true}
-use Rattle.meaning.specs.Meaning.{rulesOf, places, rosters}
-use Rattle.meaning.specs.Bounds.{top}
+use Rattle.meaning.specs.Meaning.{arcsOf, rulesOf, places, rosters}
+use Rattle.meaning.specs.Bounds.{mostStates, tableSize, top}
 use Rattle.rules.specs.Answers.{zeros}
-use Rattle.rooms.specs.Tables.{turned, frame, layer, Sizes, Prepared}
-use Rattle.reach.specs.Looks.{LowRows, Meant, Tells}
+use Rattle.ranks.specs.Rows.{noArc, costIn, out, Turns}
+use Rattle.ranks.proofs.Least.{out-cheap}
+use Rattle.rooms.specs.Tables.{turned, Sizes, Prepared}
+use Rattle.reach.specs.Looks.{LowRows, Arrives, Vacant, Meant, Tells}
 use Rattle.reach.specs.Whole.{Filters, Finds, Order, FilterRuns, FirstRuns}
 
 -- what the backward pass leaves, as the passes after it ask for it
-pub ready-prepared : {qs vs accepting : ℕ} {t c ms ls to fee work to′ fee′ work′ : List ℕ} → Prepared qs vs t c accepting ms ls to fee work to′ fee′ work′ → LowRows qs (length ms) work′
-unfolding layer
-ready-prepared {qs} {vs} {accepting} {ms = ms} {ls} {to′ = to} {fee′ = fee} {work′ = work} p = record { low = low }
-  where
-    low : (j k : ℕ) → j ≤ length ms → k < qs → getD work (j * 64 + k) 0 ≤ suc top
-    low j k h l = let e : getD work (j * 64 + k) 0 ≡ layer (frame (turned to fee) qs vs accepting) ms ls j k = p .rooms .right j k (omega arith) h l in omega arith
+pub ready-prepared : {qs vs accepting : ℕ} {t c ms ls to fee arcs work to′ fee′ arcs′ work′ : List ℕ} → Prepared qs vs t c accepting ms ls to fee arcs work to′ fee′ arcs′ work′ → LowRows qs (length ms) work′
+ready-prepared p = record { low = λ j k h l. omega (arith, p .rooms .right j k (omega arith) h l) }
 
-pub filters-is : {qs vs start spent accepting least : ℕ} {t c ms ls ts cs to fee work mid is out : List ℕ} → length ls ≡ length ms
-    → Prepared qs vs t c accepting ms ls ts cs work to fee mid → Tells (turned to fee) qs vs start spent ms mid out least
+-- the rows of arcs turned round, if there is a table for them
+pub ready-turned : {qs vs accepting : ℕ} {t c ms ls ts cs arcs work to fee arcs′ mid rests into rests′ into′ : List ℕ} → Sizes qs vs t c ms ls work → ((k : ℕ) → getD c k 0 < 65536)
+    → Prepared qs vs t c accepting ms ls ts cs arcs work to fee arcs′ mid → length arcs ≡ length into → length arcs′ ≡ length arcs → Vacant into → length rests ≡ mostStates
+    → ((k : ℕ) → k < mostStates → getD rests k 0 ≡ costIn noArc) → length into′ ≡ length into → Turns qs arcs′ rests into rests′ into′
+    → length into′ ≡ tableSize → Arrives (turned to fee) qs vs rests′ into′
+ready-turned {qs} {vs} {t = t} {c} {into = into} s cheap p a b v r none l y e = record {
+  of = arcsOf qs vs t c;
+  states = refl;
+  values = refl;
+  same = p .turns;
+  ranked = y .right (out (arcsOf qs vs t c)) (s .few-states) (b ∙ (a ∙ long)) r long (v .none long) none (λ q d u h k j. out-cheap (arcsOf qs vs t c) q d u cheap j) (p .ranks (a ∙ long));
+  few = λ u h. omega (arith, y .fall u, none u (omega (arith, s .few-states)));
+}
+  where
+    long : length into ≡ tableSize
+    long = sym l ∙ e
+
+pub filters-is : {qs vs start spent accepting least : ℕ} {t c ms ls ts cs arcs to fee arcs′ work mid is out : List ℕ} → length ls ≡ length ms
+    → Prepared qs vs t c accepting ms ls ts cs arcs work to fee arcs′ mid → Tells (turned to fee) qs vs start spent ms mid out least
     → length mid ≡ length work → is ≡ zeros mid
     → Filters (rulesOf qs vs t c accepting) start spent (places ms ls) work is out least
 filters-is {qs} {vs} {accepting = accepting} {t = t} {c} {ms} {ls} {to} {fee} {mid = mid} e p y h k =
-    let m : Meant (turned to fee) qs vs ms mid t c ls accepting = record { limits = e; arcs = p .arcs; rooms = p .rooms } in
+    let m : Meant (turned to fee) qs vs ms mid t c ls accepting = record { limits = e; arcs = p .turns; rooms = p .rooms } in
     record { most = y .most; some = λ l. y .some t c ls accepting m l; none = λ l. y .none t c ls accepting m l; cleared = k ∙ rw h }
 
 -- what is lent is in order, or not

@@ -2,8 +2,10 @@ pub mod Reach
 pub mod Rising
 pub mod Front
 pub mod Verdicts
+pub mod Needing
 pub mod Sweeping
 pub mod Living
+pub mod Pulling
 pub mod Passing
 pub mod Firsts
 pub mod Walking

@@ -16,8 +16,8 @@ use borrow.Author.Tests.{eq-eqb, ne-eqb, lt-ltb, le-ltb}
 use Rattle.kinds.specs.Bits.{bit, maskOf}
 use Rattle.kinds.proofs.Bits.{bit-zero, bit-suc, bit-and, bit-or, bit-none, bit-pow, bit-mask, bit-above, mask-is, mask-lt, shl-one}
 use Rattle.meaning.specs.Bounds.{top}
-use Rattle.rooms.specs.Tables.{Filled, Loaded, down}
-use Rattle.reach.specs.Looks.{joins, liveOf, LiveHeld, Low, LowRows, Rooms}
+use Rattle.rooms.specs.Tables.{down, Net, roomsBy, Low}
+use Rattle.reach.specs.Looks.{joins, liveOf, LiveHeld, LowRows}
 use Rattle.rooms.proofs.Filling.{row-part}
 
 -- state by state: the mask of the states that f picks
@@ -87,60 +87,56 @@ rest-set (suc k) n u h l e d = go u (n % 2) refl (omega arith) e d (λ u p e d. 
     go (suc u) (suc (suc r)) p b e d ih = absurd (omega arith)
 
 -- from live state to live state: those of `left` are still to be looked at, and no other state joins
-module _ (ts cs front next : List ℕ) (n : ℕ) where
+module _ (a : Net) (front needs : List ℕ) (v n : ℕ) where
   pub record Looked (left : ℕ) : Type 0 where
     pub few : (q : ℕ) → bit left q ≡ true → q < n
-    pub none : (q : ℕ) → q < n → bit left q ≡ false → ltb (getD front q 0 + getD cs q 0) (getD next (getD ts q 0) 0) ≡ false
+    pub none : (q : ℕ) → q < n → bit left q ≡ false → ltb (getD front q 0 + a .fee q v) (roomsBy needs (a .to q v)) ≡ false
 
-  pub looked-none : (live : ℕ) → live ≡ liveOf n front → Rooms next → Looked live
+  pub looked-none : (live : ℕ) → live ≡ liveOf n front → Looked live
   unfolding liveOf
-  looked-none live e r = record {
+  looked-none live e = record {
     few = λ q b. few q b (decLt q n);
-    none = λ q l b. le-ltb _ _ (dead q (getD ts q 0) (sym (bit-mask (λ q. ltb (getD front q 0) (suc top)) n q l) ∙ (sym (ap (λ (m : ℕ). bit m q) e) ∙ b)));
+    none = λ q l b. le-ltb _ _ (dead q (a .to q v) (sym (bit-mask (λ q. ltb (getD front q 0) (suc top)) n q l) ∙ (sym (ap (λ (m : ℕ). bit m q) e) ∙ b)));
   }
     where
       few : (q : ℕ) → bit live q ≡ true → Dec (q < n) → q < n
       few q b (yes h) = h
       few q b (no h) = absurd (false≢true (sym (bit-above n live q (rw e (mask-lt (λ q. ltb (getD front q 0) (suc top)) n)) (omega arith)) ∙ b))
 
-      dead : (q t : ℕ) → ltb (getD front q 0) (suc top) ≡ false → getD next t 0 ≤ getD front q 0 + getD cs q 0
+      dead : (q t : ℕ) → ltb (getD front q 0) (suc top) ≡ false → roomsBy needs t ≤ getD front q 0 + a .fee q v
       dead q t b = go (decLt (getD front q 0) (suc top))
         where
-          go : Dec (getD front q 0 < suc top) → getD next t 0 ≤ getD front q 0 + getD cs q 0
+          go : Dec (getD front q 0 < suc top) → roomsBy needs t ≤ getD front q 0 + a .fee q v
           go (yes h) = absurd (false≢true (sym b ∙ lt-ltb (getD front q 0) (suc top) h))
-          go (no h) = omega (arith, r .low t)
+          go (no h) = omega arith
 
   pub looked-few : {left : ℕ} → Looked left → 0 < left → left < 2 ^ 64 → trailingZeros 64 left < n
   looked-few {left} w h l = w .few (trailingZeros 64 left) (low-set 64 left h l)
 
   pub looked-more : (left : ℕ) {b : Bool} → Looked left → 0 < left → left < 2 ^ 64
-      → b ≡ ltb (getD front (trailingZeros 64 left) 0 + getD cs (trailingZeros 64 left) 0) (getD next (getD ts (trailingZeros 64 left) 0) 0) → b ≡ false → Looked (bitAnd left (left - 1))
+      → b ≡ ltb (getD front (trailingZeros 64 left) 0 + a .fee (trailingZeros 64 left) v) (roomsBy needs (a .to (trailingZeros 64 left) v)) → b ≡ false → Looked (bitAnd left (left - 1))
   looked-more left w h l d f = record {
     few = λ q b. w .few q (and-eq-true-iff (bit left q) _ .0 (sym (bit-and left (left - 1) q) ∙ b) .0);
     none = λ q k b. none q k (sym (bit-and left (left - 1) q) ∙ b) (bit left q) refl (ℕ-discrete q (trailingZeros 64 left));
   }
     where
       none : (q : ℕ) → q < n → (bit left q && bit (left - 1) q) ≡ false → (b : Bool) → bit left q ≡ b → Dec (q ≡ trailingZeros 64 left)
-          → ltb (getD front q 0 + getD cs q 0) (getD next (getD ts q 0) 0) ≡ false
+          → ltb (getD front q 0 + a .fee q v) (roomsBy needs (a .to q v)) ≡ false
       none q k e false g c = w .none q k g
       none q k e true g (yes c) = rw c (sym d ∙ f)
       none q k e true g (no c) = absurd (false≢true (sym e ∙ rw (g, rest-set 64 left q h l g c)))
 
-  pub looked-end : {left : ℕ} → left ≡ 0 → Looked left → joins ts cs front next n ≡ false
+  pub looked-end : {left : ℕ} → left ≡ 0 → Looked left → joins a front needs v n ≡ false
   unfolding joins down
   looked-end {left} e w = go n (λ q l. w .none q l (rw e (bit-none q)))
     where
-      go : (k : ℕ) → ((q : ℕ) → q < k → ltb (getD front q 0 + getD cs q 0) (getD next (getD ts q 0) 0) ≡ false) → joins ts cs front next k ≡ false
+      go : (k : ℕ) → ((q : ℕ) → q < k → ltb (getD front q 0 + a .fee q v) (roomsBy needs (a .to q v)) ≡ false) → joins a front needs v k ≡ false
       go zero h = refl
       go (suc k) h = rw (h k (omega arith), go k (λ q l. h q (omega arith)))
 
--- the rooms of a place, copied from the work table
-pub rooms-copied : {n : ℕ} {row next next′ : List ℕ} → Low n row → Loaded (λ t. getD next t 0) n next → Filled (λ k. getD row k 0) n next next′ → Rooms next′
-rooms-copied {n} {row} {next} {next′} r l f = record { low = λ t. go t (decLt t n) }
-  where
-    go : (t : ℕ) → Dec (t < n) → getD next′ t 0 ≤ suc top
-    go t (yes h) = rw (f .done t h) (r .low t h)
-    go t (no h) = rw (f .left t (omega arith), l .none t (omega arith)) (omega arith)
+-- the rows of the work table: the first, and that of a place
+pub start-low : {n rows k : ℕ} {work : List ℕ} → k < n → LowRows n rows work → getD work k 0 ≤ suc top
+start-low {k = k} h l = let e : 0 * 64 + k ≡ k = omega arith in rw e at (l .low 0 k (omega arith) h)
 
 pub row-low : (n rows i : ℕ) (work : List ℕ) → n ≤ 64 → i < rows → LowRows n rows work → Low n (take ((i + 1) * 64 + 64 - (i + 1) * 64) (drop ((i + 1) * 64) work))
 row-low n rows i work h k l =

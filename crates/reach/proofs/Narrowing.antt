@@ -60,12 +60,12 @@ pub alone-long : (ms : List ℕ) (i x : ℕ) {own : List ℕ} → own ≡ set ms
 alone-long ms i x e = ap length e ∙ length-set ms i x
 
 -- what the walk finds is the first roster with the value there
-pub finds-is : {qs vs start spent i v accepting : ℕ} {t c ms ls own ts cs to fee work mid is was out : List ℕ} {found : Bool} → Sizes qs vs t c ms ls work → i < length ms → own ≡ alone ms i v
-    → Prepared qs vs t c accepting own ls ts cs work to fee mid → Walks (turned to fee) qs vs start spent own mid was out found
+pub finds-is : {qs vs start spent i v accepting : ℕ} {t c ms ls own ts cs arcs to fee arcs′ work mid is was out : List ℕ} {found : Bool} → Sizes qs vs t c ms ls work → i < length ms → own ≡ alone ms i v
+    → Prepared qs vs t c accepting own ls ts cs arcs work to fee arcs′ mid → Walks (turned to fee) qs vs start spent own mid was out found
     → length mid ≡ length work → is ≡ zeros mid
     → Finds (rosters (rulesOf qs vs t c accepting) start spent (places ms ls)) i v was out work is found
 finds-is {qs} {vs} {start} {spent} {i} {v} {accepting} {t} {c} {ms} {ls} {own} {to = to} {fee} {mid = mid} p h o r w l z =
-    let m : Meant (turned to fee) qs vs own mid t c ls accepting = record { limits = p .all-limits ∙ sym (alone-long ms i _ o); arcs = r .arcs; rooms = r .rooms } in
+    let m : Meant (turned to fee) qs vs own mid t c ls accepting = record { limits = p .all-limits ∙ sym (alone-long ms i _ o); arcs = r .turns; rooms = r .rooms } in
     let e = first-alone (rulesOf qs vs t c accepting) start spent i v ms ls (p .few-values) (p .all-limits) h
     ∙ ap (λ (x : List ℕ). take 1 (rosters (rulesOf qs vs t c accepting) start spent (places x ls))) (sym o) in
     record {

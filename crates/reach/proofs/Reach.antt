@@ -30,6 +30,15 @@ pub record Leads (a : Net) (front : ℕ → ℕ) (most t : ℕ) (xs : List Look)
   pub costs : reach a front most t xs ≡ spends a front by
 
 module _ (a : Net) (front : ℕ → ℕ) (most : ℕ) where
+  pub reach-low : (t : ℕ) (xs : List Look) → reach a front most t xs ≤ most
+  unfolding reach
+  reach-low t [] = omega arith
+  reach-low t (x ∷ xs) = go (eqb (leads a x) t) (reach-low t xs)
+    where
+      go : (b : Bool) → reach a front most t xs ≤ most → cond b (min (spends a front x) (reach a front most t xs)) (reach a front most t xs) ≤ most
+      go true h = omega arith
+      go false h = h
+
   pub reach-most : {x : Look} {xs : List Look} → In x xs → reach a front most (leads a x) xs ≤ spends a front x
   unfolding reach
   reach-most {x} (head {x = y} {xs} e) = rw (← e, eq-eqb (leads a x) (leads a x) refl) (omega arith)

@@ -11,22 +11,13 @@ use lib.ListN.{length, getD, set, take, drop, replicate, getD-replicate}
 use lib.Seq.{getD-set-same, getD-set-other}
 use borrow.Rule.Slice.PartMut.{putMid, midOf, mid-len}
 use Rattle.meaning.specs.Bounds.{top}
-use Rattle.rooms.specs.Tables.{Net, choices, copied, Filled, Matches, Laid}
+use Rattle.rooms.specs.Tables.{Net, choices, copied, Filled, Matches, Laid, Low}
 use Rattle.rooms.proofs.Filling.{row-part, copied-filled, laid-put}
-use Rattle.reach.specs.Looks.{Look, looks, spends, leads, reach, Low, Swept, Spread, Blank, Lows, Known, Past}
-use Rattle.reach.proofs.Reach.{looks-in}
+use Rattle.reach.specs.Looks.{Look, looks, leads, reach, Swept, Spread, Blank, Lows, Known, Past}
+use Rattle.reach.proofs.Reach.{looks-in, reach-low}
 
 -- least costs rise as much as the front does
 module _ (a : Net) where
-  reach-low : (f : ℕ → ℕ) (most t : ℕ) (xs : List Look) → reach a f most t xs ≤ most
-  unfolding reach
-  reach-low f most t [] = omega arith
-  reach-low f most t (x ∷ xs) = go (eqb (leads a x) t) (reach-low f most t xs)
-    where
-      go : (b : Bool) → reach a f most t xs ≤ most → cond b (min (spends a f x) (reach a f most t xs)) (reach a f most t xs) ≤ most
-      go true h = omega arith
-      go false h = h
-
   rise-one : (x fee r d : ℕ) → r ≤ suc top → min (min (suc top) (x + d) + fee) (min (suc top) (r + d)) ≡ min (suc top) (min (x + fee) r + d)
   rise-one x fee r d h = omega arith
 
@@ -38,13 +29,16 @@ module _ (a : Net) where
     where
       go : (b : Bool) → cond b (min (min (suc top) (f (x .state) + d) + a .fee (x .state) (x .value)) (min (suc top) (reach a f (suc top) t xs + d))) (min (suc top) (reach a f (suc top) t xs + d))
           ≡ min (suc top) (cond b (min (f (x .state) + a .fee (x .state) (x .value)) (reach a f (suc top) t xs)) (reach a f (suc top) t xs) + d)
-      go true = rise-one (f (x .state)) (a .fee (x .state) (x .value)) (reach a f (suc top) t xs) d (reach-low f (suc top) t xs)
+      go true = rise-one (f (x .state)) (a .fee (x .state) (x .value)) (reach a f (suc top) t xs) d (reach-low a f (suc top) t xs)
       go false = refl
 
   reach-same : (f g : ℕ → ℕ) (most t : ℕ) (xs : List Look) → ((x : Look) → In x xs → g (x .state) ≡ f (x .state)) → reach a g most t xs ≡ reach a f most t xs
   unfolding reach
   reach-same f g most t [] h = refl
   reach-same f g most t (x ∷ xs) h = rw (h x (head refl), reach-same f g most t xs (λ y m. h y (tail m)))
+
+pub spread-low : {a : Net} {qs : ℕ} {vs front is : List ℕ} → Spread a qs vs front is → Low qs is
+spread-low {a} {qs} {vs} {front} s = record { low = λ k h. rw (s .right k h) (reach-low a (λ q. getD front q 0) (suc top) k (looks qs vs)) }
 
 -- a slot found or not, as the code finds it
 pub known-not : (n mask slot : ℕ) (front fronts held : List ℕ) → Known n mask slot 366002 front fronts held

@@ -9,13 +9,13 @@ use native.Mathlib.Decide.{ℕ-discrete}
 use lib.Dec.{ltb, eqb}
 use lib.ListN.{length, getD, set, take, drop}
 use lib.Seq.{getD-set-same, getD-set-other}
-use borrow.Author.Tests.{eq-eqb, ne-eqb, lt-ltb, le-ltb}
+use borrow.Author.Tests.{eq-eqb, ne-eqb}
 use Rattle.kinds.specs.Bits.{width, bit, maskOf}
 use Rattle.kinds.proofs.Bits.{bit-mask, bit-none, mask-is, mask-lt}
 use Rattle.meaning.specs.Bounds.{top}
 use Rattle.meaning.proofs.Lists.{in-any}
-use Rattle.rooms.specs.Tables.{down, choices, turned}
-use Rattle.reach.specs.Looks.{along, looks, reach, marks, arrive, joins, struck, lowest, Pushed, Swept, Keeps}
+use Rattle.rooms.specs.Tables.{down, choices, Net, turned, roomsBy}
+use Rattle.reach.specs.Looks.{along, looks, reach, marks, arrive, joins, lowest, Pushed, Swept, Keeps}
 use Rattle.rooms.proofs.Rooms.{in-down}
 use Rattle.rooms.proofs.Filling.{part-at}
 use Rattle.rooms.proofs.Raising.{choices-none, choices-more, choices-skip}
@@ -41,10 +41,22 @@ module _ (ts cs front : List ℕ) where
   pushed-end {was} {is} {q} {n} p h k = let e : q ≡ n = omega arith in rw e at p
 
 -- state by state: whether one joins
-module _ (ts cs front next : List ℕ) where
-  pub joins-here : (q n : ℕ) {b : Bool} → q < n → b ≡ ltb (getD front q 0 + getD cs q 0) (getD next (getD ts q 0) 0) → b ≡ true → true ≡ joins ts cs front next n
+module _ (a : Net) (front needs : List ℕ) (v : ℕ) where
+  pub joins-here : (q n : ℕ) {b : Bool} → q < n → b ≡ ltb (getD front q 0 + a .fee q v) (roomsBy needs (a .to q v)) → b ≡ true → true ≡ joins a front needs v n
   unfolding joins
-  joins-here q n h d f = sym (in-any (λ q. ltb (getD front q 0 + getD cs q 0) (getD next (getD ts q 0) 0)) (in-down n q h) (sym d ∙ f))
+  joins-here q n h d f = sym (in-any (λ q. ltb (getD front q 0 + a .fee q v) (roomsBy needs (a .to q v))) (in-down n q h) (sym d ∙ f))
+
+  joins-is : (u n : ℕ) → (joins a front needs v n && eqb u v) ≡ marks a (roomsBy needs) (λ q. getD front q 0) u (along n v)
+  unfolding joins marks down
+  joins-is u zero = refl
+  joins-is u (suc n) = rw (← joins-is u n) (spread (ltb (getD front n 0 + a .fee n v) (roomsBy needs (a .to n v))) _ (eqb u v))
+    where
+      spread : (a b d : Bool) → ((a || b) && d) ≡ ((a && d) || (b && d))
+      spread true true true = refl
+      spread true true false = refl
+      spread true false true = refl
+      spread true false false = refl
+      spread false b d = refl
 
 pub lowest-none : (row : List ℕ) → 366001 ≡ lowest row 0
 unfolding lowest top
@@ -74,21 +86,6 @@ module _ (ts cs : List ℕ) (v at k : ℕ) (e : at ≡ v * 64) (front : List ℕ
   arrive-is most t zero h = refl
   arrive-is most t (suc n) h = rw (arrive-is most t n (omega arith), part-at ts at v k n e (omega arith), part-at cs at v k n e (omega arith))
 
-  joins-is : (next : List ℕ) (u n : ℕ) → n ≤ k
-      → (joins (take k (drop at ts)) (take k (drop at cs)) front next n && eqb u v) ≡ marks (turned ts cs) (λ t. getD next t 0) (λ q. getD front q 0) u (along n v)
-  unfolding joins marks turned down
-  joins-is next u zero h = refl
-  joins-is next u (suc n) h =
-      rw (part-at ts at v k n e (omega arith), part-at cs at v k n e (omega arith), ← joins-is next u n (omega arith))
-      (spread (ltb (getD front n 0 + getD cs (v * 64 + n) 0) (getD next (getD ts (v * 64 + n) 0) 0)) _ (eqb u v))
-    where
-      spread : (a b d : Bool) → ((a || b) && d) ≡ ((a && d) || (b && d))
-      spread true true true = refl
-      spread true true false = refl
-      spread true false true = refl
-      spread true false false = refl
-      spread false b d = refl
-
 -- value by value: the least costs
 module _ (ts cs : List ℕ) (qs m : ℕ) (front : List ℕ) where
   pub swept-none : (was : List ℕ) → Swept (turned ts cs) qs (choices 0 m) front was was
@@ -113,33 +110,26 @@ module _ (ts cs : List ℕ) (qs m : ℕ) (front : List ℕ) where
   swept-end {v} {vs} h k s = let e : v ≡ vs = omega arith in rw e at s
 
 -- value by value: those that are kept
-module _ (ts cs : List ℕ) (qs m : ℕ) (front next : List ℕ) where
-  pub keeps-none : Keeps (turned ts cs) qs (choices 0 m) front next 0
+module _ (a : Net) (qs m : ℕ) (front needs : List ℕ) where
+  pub keeps-none : Keeps a qs (choices 0 m) front needs 0
   unfolding marks
   keeps-none = record { values = λ v h. rw choices-none (bit-none v); small = omega arith }
 
-  pub keeps-more : (v at k : ℕ) {x y : ℕ} → bit m v ≡ true → at ≡ v * 64 → qs ≤ k → Keeps (turned ts cs) qs (choices v m) front next x
-      → y ≡ maskOf (λ u. bit x u || (joins (take k (drop at ts)) (take k (drop at cs)) front next qs && eqb u v)) width
-      → {z : ℕ} → z ≡ y → Keeps (turned ts cs) qs (choices (v + 1) m) front next z
-  keeps-more v at k {x} {y} e r h s z f =
-      let on : Bool = joins (take k (drop at ts)) (take k (drop at cs)) front next qs in
+  pub keeps-more : (v : ℕ) {x y : ℕ} → bit m v ≡ true → Keeps a qs (choices v m) front needs x
+      → y ≡ maskOf (λ u. bit x u || (joins a front needs v qs && eqb u v)) width
+      → {z : ℕ} → z ≡ y → Keeps a qs (choices (v + 1) m) front needs z
+  keeps-more v {x} {y} e s z f =
+      let on : Bool = joins a front needs v qs in
       rw f (record {
         values = λ u l. rw (choices-more v m e) (ap (λ (n : ℕ). bit n u) z ∙ (bit-mask (λ u. bit x u || (on && eqb u v)) width u l
             ∙ (or-comm (bit x u) _
-            ∙ (rw (joins-is ts cs v at k r front next u qs h, s .values u l)
-            (sym (marks-join (turned ts cs) (λ t. getD next t 0) (λ q. getD front q 0) u (along qs v) (looks qs (choices v m))))))));
+            ∙ (rw (joins-is a front needs v u qs, s .values u l)
+            (sym (marks-join a (roomsBy needs) (λ q. getD front q 0) u (along qs v) (looks qs (choices v m))))))));
         small = rw z (mask-lt (λ u. bit x u || (on && eqb u v)) width);
       })
 
-  pub keeps-skip : (v : ℕ) {x : ℕ} → bit m v ≡ false → Keeps (turned ts cs) qs (choices v m) front next x → {z : ℕ} → z ≡ x → Keeps (turned ts cs) qs (choices (v + 1) m) front next z
+  pub keeps-skip : (v : ℕ) {x : ℕ} → bit m v ≡ false → Keeps a qs (choices v m) front needs x → {z : ℕ} → z ≡ x → Keeps a qs (choices (v + 1) m) front needs z
   keeps-skip v e s f = rw (choices-skip v m e, f) s
 
-  pub keeps-end : {v vs x : ℕ} → v ≤ vs → vs ≤ v → Keeps (turned ts cs) qs (choices v m) front next x → Keeps (turned ts cs) qs (choices vs m) front next x
+  pub keeps-end : {v vs x : ℕ} → v ≤ vs → vs ≤ v → Keeps a qs (choices v m) front needs x → Keeps a qs (choices vs m) front needs x
   keeps-end {v} {vs} h k s = let e : v ≡ vs = omega arith in rw e at s
-
-pub struck-yes : (x n : ℕ) → x < n → x ≡ struck x n
-struck-yes x n h = rw (lt-ltb x n h)
-
-pub struck-no : (x n : ℕ) → n ≤ x → 366001 ≡ struck x n
-unfolding top
-struck-no x n h = rw (le-ltb x n h)

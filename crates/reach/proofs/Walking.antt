@@ -16,10 +16,11 @@ use Rattle.meaning.specs.Meaning.{Rules, rulesOf, Place, place, places, rosters
 use Rattle.meaning.specs.Lists.{those}
 use Rattle.meaning.specs.Bounds.{top}
 use Rattle.meaning.proofs.Members.{roster-in, allowed-length}
-use Rattle.rooms.specs.Tables.{Filled, Net, turned, frame, room, Loaded}
-use Rattle.reach.specs.Looks.{LowRows, Meant, takeable, Walks}
+use Rattle.rooms.specs.Tables.{Filled, Net, turned, frame, room, capped, roomsBy, Needed, Bare}
+use Rattle.reach.specs.Looks.{Meant, takeable, Walks}
 use Rattle.rooms.proofs.Rooms.{Way, room-way}
-use Rattle.rooms.proofs.Layering.{drop-places, drop-all, copied-row, row-copied}
+use Rattle.rooms.proofs.Layering.{drop-places, drop-all}
+use Rattle.reach.proofs.Needing.{bare-fill, rooms-copied}
 use Rattle.reach.proofs.Firsts.{first-goes, first-way, first-none}
 
 -- two maps one upon the other
@@ -42,45 +43,49 @@ ends r q s [] e y = go (y .roster) (y .allows)
 ends r q s (p ∷ ps) e y = let z : _≡_ {A = ℕ} 0 1 = cc in absurd (omega arith)
 
 -- values tried one after the other: no value below v can be taken
-pub record Tried (a : Net) (next : List ℕ) (m q spent v : ℕ) : Type 0 where
-  pub none : (u : ℕ) → u < v → takeable a next m q spent u ≡ false
+pub record Tried (a : Net) (needs : List ℕ) (m q spent v : ℕ) : Type 0 where
+  pub none : (u : ℕ) → u < v → takeable a needs m q spent u ≡ false
 
-pub tried-none : (a : Net) (next : List ℕ) (m q s : ℕ) → Tried a next m q s 0
-tried-none a next m q s = record { none = λ u h. absurd (omega arith) }
+pub tried-none : (a : Net) (needs : List ℕ) (m q s : ℕ) → Tried a needs m q s 0
+tried-none a needs m q s = record { none = λ u h. absurd (omega arith) }
 
-pub tried-more : (a : Net) (next : List ℕ) (m q s v : ℕ) {b : Bool} → Tried a next m q s v → b ≡ takeable a next m q s v → b ≡ false → Tried a next m q s (v + 1)
-tried-more a next m q s v t e f = record { none = λ u h. go u h (ℕ-discrete u v) }
+pub tried-more : (a : Net) (needs : List ℕ) (m q s v : ℕ) {b : Bool} → Tried a needs m q s v → b ≡ takeable a needs m q s v → b ≡ false → Tried a needs m q s (v + 1)
+tried-more a needs m q s v t e f = record { none = λ u h. go u h (ℕ-discrete u v) }
   where
-    go : (u : ℕ) → u < v + 1 → Dec (u ≡ v) → takeable a next m q s u ≡ false
+    go : (u : ℕ) → u < v + 1 → Dec (u ≡ v) → takeable a needs m q s u ≡ false
     go u h (yes d) = rw d (sym e ∙ f)
     go u h (no d) = t .none u (omega arith)
 
-pub record Walking (a : Net) (qs vs start spent : ℕ) (ms work was is next : List ℕ) (q s i : ℕ) : Type 0 where
+pub record Walking (a : Net) (qs vs start spent : ℕ) (ms work was is needs : List ℕ) (q s i : ℕ) : Type 0 where
   pub state : q < qs
   pub low : s ≤ top
-  pub none : (k : ℕ) → qs ≤ k → getD next k 0 ≡ 0
+  pub bare : Bare qs needs
   pub fresh : i ≡ 0 → is ≡ was
   pub way : 0 < i → (t c ls : List ℕ) (accepting : ℕ) → Meant a qs vs ms work t c ls accepting → s < room (frame a qs vs accepting) (drop i (places ms ls)) q
   pub first : (t c ls : List ℕ) (accepting : ℕ) → Meant a qs vs ms work t c ls accepting
       → take 1 (rosters (rulesOf qs vs t c accepting) start spent (places ms ls)) ≡ map (λ w. take i is ++ w) (take 1 (rosters (rulesOf qs vs t c accepting) q s (drop i (places ms ls))))
 
 module _ (a : Net) (qs vs start spent : ℕ) (ms work was : List ℕ) where
-  pub walking-starts : (next : List ℕ) → start < qs → spent ≤ top → Loaded (λ t. 0) qs next → Walking a qs vs start spent ms work was was next start spent 0
-  walking-starts next h k l = record {
+  pub walking-starts : (needs : List ℕ) → start < qs → spent ≤ top → Needed (λ t. 0) qs needs → Walking a qs vs start spent ms work was was needs start spent 0
+  walking-starts needs h k l = record {
     state = h;
     low = k;
-    none = l .none;
+    bare = record { none = l .none };
     fresh = λ e. refl;
     way = λ e. absurd (omega arith);
     first = λ t c ls accepting m. map-all (take 1 (rosters (rulesOf qs vs t c accepting) start spent (places ms ls)));
   }
 
-  module _ (is next now : List ℕ) (q s i v : ℕ) (h64 : qs ≤ 64) (hi : i < length ms) (ho : length is ≡ length ms) (lows : LowRows qs (length ms) work)
-      (w : Walking a qs vs start spent ms work was is next q s i)
-      (l : Filled (λ k. getD (take ((i + 1) * 64 + 64 - (i + 1) * 64) (drop ((i + 1) * 64) work)) k 0) qs next now)
+  module _ (is needs now : List ℕ) (q s i v : ℕ) (h64 : qs ≤ 64) (hi : i < length ms) (ho : length is ≡ length ms) (long : length needs ≡ 256) (still : length now ≡ length needs)
+      (w : Walking a qs vs start spent ms work was is needs q s i)
+      (l : Filled (λ k. getD (take ((i + 1) * 64 + 64 - (i + 1) * 64) (drop ((i + 1) * 64) work)) k 0) qs needs now)
       (tried : Tried a now (getD ms i 0) q s v) where
-    beyond : (k : ℕ) → qs ≤ k → getD now k 0 ≡ 0
-    beyond k h = l .left k h ∙ w .none k h
+    bare : Bare qs now
+    bare = bare-fill still (w .bare) l
+
+    rooms : (t c ls : List ℕ) (accepting : ℕ) → Meant a qs vs ms work t c ls accepting
+        → (u : ℕ) → roomsBy now u ≡ capped (getD ls i 0) (room (frame a qs vs accepting) (drop (suc i) (places ms ls)) u)
+    rooms t c ls accepting m = rooms-copied (frame a qs vs accepting) ms ls (m .limits) i work needs now h64 long still hi (m .rooms) (w .bare) l
 
     -- one place on, by the smallest value that can be taken
     pub walking-more : v < vs → {b : Bool} → b ≡ takeable a now (getD ms i 0) q s v → b ≡ true → {t c : ℕ} → t ≡ a .to q v → c ≡ s + a .fee q v
@@ -88,15 +93,15 @@ module _ (a : Net) (qs vs start spent : ℕ) (ms work was : List ℕ) where
     walking-more hv e d {t} {c} et ec = rw (et, ec) (record {
       state = state;
       low = low;
-      none = beyond;
+      bare = bare;
       fresh = λ k. absurd (omega arith);
       way = λ k t c ls accepting m.
-          rw add-one (first-way (rulesOf qs vs t c accepting) a (m .arcs) q s (place (getD ms i 0) (getD ls i 0)) (drop (suc i) (places ms ls)) (w .state) (λ u. getD now u 0)
-          (row-copied (frame a qs vs accepting) ms ls (m .limits) i work next now h64 hi (m .rooms) (w .none) l) v hv (sym e ∙ d) .0);
+          rw add-one (first-way (rulesOf qs vs t c accepting) a (m .arcs) q s (place (getD ms i 0) (getD ls i 0)) (drop (suc i) (places ms ls)) (w .state) (roomsBy now)
+          (rooms t c ls accepting m) v hv (sym e ∙ d) .0);
       first = λ t c ls accepting m. w .first t c ls accepting m ∙ onward t c ls accepting m;
     })
       where
-        roomy : s + a .fee q v < getD now (a .to q v) 0
+        roomy : s + a .fee q v < roomsBy now (a .to q v)
         roomy = ltb-true _ _ (and-eq-true-iff (bit (getD ms i 0) v) _ .0 (sym e ∙ d) .1)
 
         state : a .to q v < qs
@@ -104,10 +109,10 @@ module _ (a : Net) (qs vs start spent : ℕ) (ms work was : List ℕ) where
           where
             go : Dec (a .to q v < qs) → a .to q v < qs
             go (yes k) = k
-            go (no k) = absurd (omega (arith, roomy, beyond (a .to q v) (omega arith)))
+            go (no k) = absurd (omega (arith, roomy, bare .none (a .to q v) (omega arith)))
 
         low : s + a .fee q v ≤ top
-        low = omega (arith, roomy, copied-row i work qs next now h64 l (a .to q v) state, lows .low (suc i) (a .to q v) (omega arith) state)
+        low = omega (arith, roomy)
 
         onward : (t c ls : List ℕ) (accepting : ℕ) → Meant a qs vs ms work t c ls accepting
             → map (λ z. take i is ++ z) (take 1 (rosters (rulesOf qs vs t c accepting) q s (drop i (places ms ls))))
@@ -115,8 +120,8 @@ module _ (a : Net) (qs vs start spent : ℕ) (ms work was : List ℕ) where
         onward t c ls accepting m =
             rw (
               drop-places ms ls i (m .limits) hi,
-              first-goes (rulesOf qs vs t c accepting) a (m .arcs) q s (place (getD ms i 0) (getD ls i 0)) (drop (suc i) (places ms ls)) (w .state) (λ u. getD now u 0)
-                  (row-copied (frame a qs vs accepting) ms ls (m .limits) i work next now h64 hi (m .rooms) (w .none) l) v hv (tried .none) (sym e ∙ d),
+              first-goes (rulesOf qs vs t c accepting) a (m .arcs) q s (place (getD ms i 0) (getD ls i 0)) (drop (suc i) (places ms ls)) (w .state) (roomsBy now)
+                  (rooms t c ls accepting m) v hv (tried .none) (sym e ∙ d),
               add-one,
               take-suc-set is i v (omega arith),
             )
@@ -126,8 +131,8 @@ module _ (a : Net) (qs vs start spent : ℕ) (ms work was : List ℕ) where
     module _ (hv : vs ≤ v) (t c ls : List ℕ) (accepting : ℕ) (m : Meant a qs vs ms work t c ls accepting) where
       stuck : rosters (rulesOf qs vs t c accepting) q s (drop i (places ms ls)) ≡ []
       stuck = rw (drop-places ms ls i (m .limits) hi)
-          (first-none (rulesOf qs vs t c accepting) a (m .arcs) q s (place (getD ms i 0) (getD ls i 0)) (drop (suc i) (places ms ls)) (w .state) (λ u. getD now u 0)
-          (row-copied (frame a qs vs accepting) ms ls (m .limits) i work next now h64 hi (m .rooms) (w .none) l) (λ u k. tried .none u (omega arith)))
+          (first-none (rulesOf qs vs t c accepting) a (m .arcs) q s (place (getD ms i 0) (getD ls i 0)) (drop (suc i) (places ms ls)) (w .state) (roomsBy now)
+          (rooms t c ls accepting m) (λ u k. tried .none u (omega arith)))
 
       at-first : i ≡ 0
       at-first = go (decLt 0 i)
@@ -153,9 +158,9 @@ module _ (a : Net) (qs vs start spent : ℕ) (ms work was : List ℕ) where
       unwritten = λ e t c ls accepting m. w .fresh (at-first hv t c ls accepting m);
     }
 
-  pub walks-some : (is next : List ℕ) (q s i : ℕ) → 1 ≤ length ms → i ≤ length ms → length ms ≤ i → length is ≡ length ms
-      → Walking a qs vs start spent ms work was is next q s i → Walks a qs vs start spent ms work was is (eqb i (length ms))
-  walks-some is next q s i h1 hi hj ho w =
+  pub walks-some : (is needs : List ℕ) (q s i : ℕ) → 1 ≤ length ms → i ≤ length ms → length ms ≤ i → length is ≡ length ms
+      → Walking a qs vs start spent ms work was is needs q s i → Walks a qs vs start spent ms work was is (eqb i (length ms))
+  walks-some is needs q s i h1 hi hj ho w =
       let e : i ≡ length ms = omega arith in
       let d : eqb i (length ms) ≡ true = eq-eqb i (length ms) e in
       record {

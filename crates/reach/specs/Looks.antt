@@ -6,10 +6,11 @@ use Prim.Native.Nat.{ℕ, zero, suc, _+_, _*_, _^_, _≤_, _<_, min}
 use lib.Dec.{ltb, eqb}
 use lib.ListN.{length, getD, take}
 use Rattle.kinds.specs.Bits.{width, bit, maskOf}
-use Rattle.meaning.specs.Meaning.{arcsOf, rulesOf, cost, places, rosters, verdict, verdictOf}
+use Rattle.meaning.specs.Meaning.{Arcs, arcsOf, rulesOf, cost, places, rosters, verdict, verdictOf}
 use Rattle.meaning.specs.Lists.{each, any}
-use Rattle.meaning.specs.Bounds.{mostStates, top}
-use Rattle.rooms.specs.Tables.{down, choices, Net, Same, frame, Filled, room, Layers}
+use Rattle.meaning.specs.Bounds.{mostStates, tableSize, top}
+use Rattle.ranks.specs.Rows.{noArc, costIn, out, Ranked}
+use Rattle.rooms.specs.Tables.{down, choices, Net, Same, frame, Filled, roomsBy, room, Layers}
 
 -- FORWARD. A look at a value from a state; `front` has the least cost at each state, one more than the top where there is none.
 pub record Look : Type 0 where
@@ -51,8 +52,9 @@ arrive ts cs front most t zero = most
 arrive ts cs front most t (suc q) =
     cond (eqb (getD ts q 0) t) (min (getD front q 0 + getD cs q 0) (arrive ts cs front most t q)) (arrive ts cs front most t q)
 
-unfoldable pub joins : List ℕ → List ℕ → List ℕ → List ℕ → ℕ → Bool
-joins ts cs front next qs = any (λ q. ltb (getD front q 0 + getD cs q 0) (getD next (getD ts q 0) 0)) (down qs)
+-- the arc of some state below qs on value v leaves a way to the end
+unfoldable pub joins : Net → List ℕ → List ℕ → ℕ → ℕ → Bool
+joins a front needs v qs = any (λ q. ltb (getD front q 0 + a .fee q v) (roomsBy needs (a .to q v))) (down qs)
 
 -- a cost, struck where it leaves no room
 abbrev pub struck : ℕ → ℕ → ℕ
@@ -71,15 +73,7 @@ liveOf n front = maskOf (λ q. ltb (getD front q 0) (suc top)) n
 pub record LiveHeld (n : ℕ) (front : List ℕ) (live : ℕ) : Type 0 where
   pub is : 0 < live → live ≡ liveOf n front
 
--- costs of states, none above the top but by one
-pub record Low (n : ℕ) (front : List ℕ) : Type 0 where
-  pub low : (k : ℕ) → k < n → getD front k 0 ≤ suc top
-
--- rooms, none above the top but by one
-pub record Rooms (next : List ℕ) : Type 0 where
-  pub low : (t : ℕ) → getD next t 0 ≤ suc top
-
--- rows of the work table that hold costs
+-- rows of the work table that hold needs
 pub record LowRows (n rows : ℕ) (work : List ℕ) : Type 0 where
   pub low : (j k : ℕ) → j ≤ rows → k < n → getD work (j * mostStates + k) 0 ≤ suc top
 
@@ -96,8 +90,8 @@ pub record Swept (a : Net) (qs : ℕ) (vs : List ℕ) (front was is : List ℕ) 
   pub costs : (t : ℕ) → getD is t 0 ≡ reach a (λ q. getD front q 0) (getD was t 0) t (looks qs vs)
 
 -- and the values that are kept
-pub record Keeps (a : Net) (qs : ℕ) (vs : List ℕ) (front next : List ℕ) (kept : ℕ) : Type 0 where
-  pub values : (v : ℕ) → v < width → bit kept v ≡ marks a (λ t. getD next t 0) (λ q. getD front q 0) v (looks qs vs)
+pub record Keeps (a : Net) (qs : ℕ) (vs : List ℕ) (front needs : List ℕ) (kept : ℕ) : Type 0 where
+  pub values : (v : ℕ) → v < width → bit kept v ≡ marks a (roomsBy needs) (λ q. getD front q 0) v (looks qs vs)
   pub small : kept < 2 ^ width
 
 -- the least costs of all looks from a front
@@ -107,6 +101,25 @@ pub record Spread (a : Net) (qs : ℕ) (vs : List ℕ) (front is : List ℕ) : T
 -- a row that holds no cost
 pub record Blank (n : ℕ) (row : List ℕ) : Type 0 where
   pub none : (t : ℕ) → t < n → getD row t 0 ≡ suc top
+
+-- rows of arcs that serve for a net: those into each state of a rule set that it has the arcs of, save some that cost no less than `rests` says
+pub record Arrives (n : Net) (qs vs : ℕ) (rests arcs : List ℕ) : Type 0 where
+  pub of : Arcs
+  pub states : of .states ≡ qs
+  pub values : of .values ≡ vs
+  pub same : Same of vs n
+  pub ranked : Ranked (λ t c s. out of s c t) qs rests arcs
+  pub few : (t : ℕ) → t < qs → getD rests t 0 ≤ costIn noArc
+
+-- a table for such rows that holds no arc yet, if it has its size
+pub record Vacant (arcs : List ℕ) : Type 0 where
+  pub none : length arcs ≡ tableSize → (k : ℕ) → k < tableSize → getD arcs k 0 ≡ noArc
+
+-- the least costs by such rows, if they are there and settle them; else the row holds no cost
+pub record Pulled (qs vs m : ℕ) (front rests into is : List ℕ) (found : Bool) : Type 0 where
+  pub long : found ≡ true → length into ≡ tableSize
+  pub right : found ≡ true → (n : Net) → Arrives n qs vs rests into → Spread n qs (choices vs m) front is
+  pub none : found ≡ false → Blank qs is
 
 -- THE PAST. The fronts in eight slots; a slot that holds mask 0 is empty:
 pub record Lows (n : ℕ) (fronts held : List ℕ) : Type 0 where
@@ -125,10 +138,10 @@ pub record Past (a : Net) (qs vs : ℕ) (fronts onwards held : List ℕ) : Type 
       → getD onwards (s * mostStates + t) 0 ≡ reach a (λ q. getD fronts (s * mostStates + q) 0) (suc top) t (looks qs (choices vs (getD held s 0)))
 
 -- one place of the forward pass
-pub record Stepped (a : Net) (qs : ℕ) (vs row front next onward front′ next′ onward′ : List ℕ) (kept : ℕ) : Type 0 where
-  pub loaded : Filled (λ k. getD row k 0) qs next next′
-  pub costs : (t : ℕ) → t < qs → getD front′ t 0 ≡ struck (reach a (λ q. getD front q 0) (getD onward t 0) t (looks qs vs)) (getD next′ t 0)
-  pub values : (v : ℕ) → v < width → bit kept v ≡ marks a (λ t. getD next′ t 0) (λ q. getD front q 0) v (looks qs vs)
+pub record Stepped (a : Net) (qs : ℕ) (vs row front needs onward front′ needs′ onward′ : List ℕ) (kept : ℕ) : Type 0 where
+  pub loaded : Filled (λ k. getD row k 0) qs needs needs′
+  pub costs : (t : ℕ) → t < qs → getD front′ t 0 ≡ struck (reach a (λ q. getD front q 0) (getD onward t 0) t (looks qs vs)) (roomsBy needs′ t)
+  pub values : (v : ℕ) → v < width → bit kept v ≡ marks a (roomsBy needs′) (λ q. getD front q 0) v (looks qs vs)
   pub small : kept < 2 ^ width
   pub blank : (t : ℕ) → t < qs → getD onward′ t 0 ≡ suc top
 
@@ -148,7 +161,7 @@ pub record Tells (a : Net) (qs vs start spent : ℕ) (ms work out : List ℕ) (l
 
 -- FIRST ROSTER. Whether a value can be taken at a state, with a cost spent.
 abbrev pub takeable : Net → List ℕ → ℕ → ℕ → ℕ → ℕ → Bool
-takeable a next m q spent v = bit m v && ltb (spent + a .fee q v) (getD next (a .to q v) 0)
+takeable a needs m q spent v = bit m v && ltb (spent + a .fee q v) (roomsBy needs (a .to q v))
 
 -- what a walk along the smallest values finds: the first roster; or there is none, and nothing was written
 pub record Walks (a : Net) (qs vs start spent : ℕ) (ms work was is : List ℕ) (found : Bool) : Type 0 where

@@ -1,17 +1,18 @@
 // The forward pass: the least cost at each state of a prefix that a roster goes on from, and the values that are kept.
 ghost use mathlib.Core.Path.{_≡_};
 ghost use mathlib.Core.Bool.{_&&_, _||_};
-ghost use Prim.Native.Nat.{suc, _+_, _*_, _≤_, _<_};
+ghost use Prim.Native.Nat.{suc, _+_, _*_, _-_, _≤_, _<_};
 ghost use lib.Dec.{ltb, eqb};
 ghost use lib.ListN.{length, getD};
 ghost use Rattle.kinds.specs.Bits.{width, bit, maskOf};
 ghost use Rattle.meaning.specs.Bounds.{mostPlaces, mostStates, mostValues, tableSize, top};
-ghost use Rattle.rooms.specs.Tables.{Filled, turned, choices, Loaded, Sizes};
-ghost use Rattle.reach.specs.Looks.{joins, struck, lowest, liveOf, LiveHeld, Low, LowRows, Rooms, Pushed, Swept, Keeps, Spread, Blank, Past, Opened, Stepped, Tells};
+ghost use Rattle.rooms.specs.Tables.{Filled, turned, choices, Sizes, need, roomsBy, Bare, Low};
+ghost use Rattle.reach.specs.Looks.{joins, struck, lowest, liveOf, LiveHeld, LowRows, Pushed, Swept, Keeps, Spread, Blank, Arrives, Pulled, Past, Opened, Stepped, Tells};
 use crate::past;
 use kinds::Mask;
 use kinds::State;
 use kinds::Value;
+use ranks::pull;
 use rooms::backward::BYTES;
 use rooms::backward::MOST_SPAN;
 use rooms::rows;
@@ -57,14 +58,20 @@ pub(crate) fn push(states: usize, targets: &[u8], costs: &[u16], front: &[u32], 
     }
 }
 
-// Whether the arc of a state leaves a way to the end.
-pub(crate) fn joins_at(targets: &[u8], costs: &[u16], front: &[u32], next: &[u32], q: State) -> bool
-    requires { ⌜ (q .0 < length (now targets)) × (q .0 < length (now costs)) × (q .0 < length (now front)) × (length (now next) ≡ 256) × (getD (now front) (q .0) 0 ≤ suc top) ⌝ }
-    ensures { λ r. ⌜ r ≡ ltb (getD (now (front .entry)) (q .0) 0 + getD (now (costs .entry)) (q .0) 0) (getD (now (next .entry)) (getD (now (targets .entry)) (q .0) 0) 0) ⌝ }
+// Whether the arc of a state on a value leaves a way to the end.
+pub(crate) fn joins_at(
+    targets: &[u8],
+    costs: &[u16],
+    front: &[u32],
+    needs: &[u32],
+    q: State,
+    v: Value,
+) -> bool
+    requires { ⌜ (length (now targets) ≡ tableSize) × (length (now costs) ≡ tableSize) × (q .0 < mostStates) × (v .0 < mostValues) × (q .0 < length (now front)) × (length (now needs) ≡ 256) × (getD (now front) (q .0) 0 ≤ suc top) × Low 256 (now needs) ⌝ }
+    ensures { λ r. ⌜ r ≡ ltb (getD (now (front .entry)) (q .0) 0 + turned (now (targets .entry)) (now (costs .entry)) .fee (q .0) (v .0)) (roomsBy (now (needs .entry)) (turned (now (targets .entry)) (now (costs .entry)) .to (q .0) (v .0))) ⌝ }
 {
-    let at = q.0 as usize;
-    let spent = front[at] + (costs[at] as u32);
-    spent < next[targets[at] as usize]
+    let at = turned_at(State(q.0), v);
+    front[q.0 as usize] + (costs[at] as u32) + needs[targets[at] as usize] <= TOP
 }
 
 // The live states that are held, worked out first where they are not yet (0).
@@ -87,15 +94,16 @@ pub(crate) fn support(
     costs: &[u16],
     front: &[u32],
     live: u64,
-    next: &[u32],
+    needs: &[u32],
+    v: Value,
 ) -> State
-    requires { ⌜ (states ≤ mostStates) × (states ≤ length (now targets)) × (states ≤ length (now costs)) × (states ≤ length (now front)) × (length (now next) ≡ 256) × Low states (now front) × (live ≡ liveOf states (now front)) × Rooms (now next) ⌝ }
-    ensures { λ r. ⌜ ltb (r .0) states ≡ joins (now (targets .entry)) (now (costs .entry)) (now (front .entry)) (now (next .entry)) states ⌝ }
+    requires { ⌜ (states ≤ mostStates) × (length (now targets) ≡ tableSize) × (length (now costs) ≡ tableSize) × (states ≤ length (now front)) × (length (now needs) ≡ 256) × (v .0 < mostValues) × Low states (now front) × (live ≡ liveOf states (now front)) × Low 256 (now needs) ⌝ }
+    ensures { λ r. ⌜ ltb (r .0) states ≡ joins (turned (now (targets .entry)) (now (costs .entry))) (now (front .entry)) (now (needs .entry)) (v .0) states ⌝ }
 {
     let mut left = live;
     while left != 0 {
         let q = State(u64::trailing_zeros(left) as u8);
-        if joins_at(targets, costs, front, next, State(q.0)) {
+        if joins_at(targets, costs, front, needs, State(q.0), Value(v.0)) {
             return q;
         }
         left = left & (left - 1);
@@ -111,22 +119,22 @@ pub(crate) fn supported(
     costs: &[u16],
     front: &[u32],
     live: &mut u64,
-    next: &[u32],
+    needs: &[u32],
     v: Value,
     hints: &mut [u8],
 ) -> bool
-    requires { ⌜ (states ≤ mostStates) × (states ≤ length (now targets)) × (states ≤ length (now costs)) × (states ≤ length (now front)) × (length (now next) ≡ 256) × Low states (now front) × (v .0 < length (now hints)) × LiveHeld states (now front) (now live) × Rooms (now next) ⌝ }
-    ensures { λ r. ⌜ (r ≡ joins (now (targets .entry)) (now (costs .entry)) (now (front .entry)) (now (next .entry)) states) × LiveHeld states (now (front .entry)) (now (live .exit)) ⌝ }
+    requires { ⌜ (states ≤ mostStates) × (length (now targets) ≡ tableSize) × (length (now costs) ≡ tableSize) × (states ≤ length (now front)) × (length (now needs) ≡ 256) × (v .0 < mostValues) × (length (now hints) ≡ mostValues) × Low states (now front) × LiveHeld states (now front) (now live) × Low 256 (now needs) ⌝ }
+    ensures { λ r. ⌜ (r ≡ joins (turned (now (targets .entry)) (now (costs .entry))) (now (front .entry)) (now (needs .entry)) (v .0) states) × LiveHeld states (now (front .entry)) (now (live .exit)) ⌝ }
 {
     let at = v.0 as usize;
     let hint = State(hints[at]);
     if (hint.0 as usize) < states {
-        if joins_at(targets, costs, front, next, hint) {
+        if joins_at(targets, costs, front, needs, hint, Value(v.0)) {
             return true;
         }
     }
     *live = recalled(states, front, *live);
-    let q = support(states, targets, costs, front, *live, next);
+    let q = support(states, targets, costs, front, *live, needs, v);
     hints[at] = q.0;
     (q.0 as usize) < states
 }
@@ -139,21 +147,22 @@ pub(crate) fn marked(kept: Mask, v: Value, on: bool) -> Mask
 }
 
 // A cost, one more than the top where it leaves no room.
-pub(crate) fn strike(cost: u32, room: u32) -> u32
-    ensures { λ r. ⌜ r ≡ struck cost room ⌝ }
+pub(crate) fn strike(cost: u32, need: u32) -> u32
+    requires { ⌜ (cost ≤ suc top) × (need ≤ suc top) ⌝ }
+    ensures { λ r. ⌜ r ≡ struck cost (suc top - need) ⌝ }
 {
-    if cost < room { cost } else { TOP + 1 }
+    if cost + need <= TOP { cost } else { TOP + 1 }
 }
 
 // The front one place on. The least costs that it is made of are blanked in the same turns, for the next place.
-pub(crate) fn advance(states: usize, next: &[u32], front: &mut [u32], onward: &mut [u32])
-    requires { ⌜ (states ≤ mostStates) × (states ≤ length (now next)) × (states ≤ length (now front)) × (states ≤ length (now onward)) ⌝ }
-    ensures { λ _. ⌜ Filled (λ q. struck (getD (now (onward .entry)) q 0) (getD (now (next .entry)) q 0)) states (now (front .entry)) (now (front .exit)) × Filled (λ q. suc top) states (now (onward .entry)) (now (onward .exit)) ⌝ }
+pub(crate) fn advance(states: usize, needs: &[u32], front: &mut [u32], onward: &mut [u32])
+    requires { ⌜ (states ≤ mostStates) × (states ≤ length (now needs)) × (states ≤ length (now front)) × (states ≤ length (now onward)) × Low 256 (now needs) × Low states (now onward) ⌝ }
+    ensures { λ _. ⌜ Filled (λ q. struck (getD (now (onward .entry)) q 0) (roomsBy (now (needs .entry)) q)) states (now (front .entry)) (now (front .exit)) × Filled (λ q. suc top) states (now (onward .entry)) (now (onward .exit)) ⌝ }
 {
     let mut q = State(0);
     while (q.0 as usize) < states {
         let at = q.0 as usize;
-        front[at] = strike(onward[at], next[at]);
+        front[at] = strike(onward[at], needs[at]);
         onward[at] = TOP + 1;
         q = State(q.0 + 1);
     }
@@ -180,15 +189,24 @@ pub(crate) fn look(
     costs: &[u16],
     front: &[u32],
     live: &mut u64,
-    next: &[u32],
+    needs: &[u32],
     v: Value,
     kept: Mask,
     hints: &mut [u8],
 ) -> Mask
-    requires { ⌜ (states ≤ mostStates) × (states ≤ length (now targets)) × (states ≤ length (now costs)) × (states ≤ length (now front)) × (length (now next) ≡ 256) × Low states (now front) × (v .0 < length (now hints)) × LiveHeld states (now front) (now live) × Rooms (now next) ⌝ }
-    ensures { λ r. ⌜ (r .0 ≡ maskOf (λ u. bit (kept .0) u || (joins (now (targets .entry)) (now (costs .entry)) (now (front .entry)) (now (next .entry)) states && eqb u (v .0))) width) × LiveHeld states (now (front .entry)) (now (live .exit)) ⌝ }
+    requires { ⌜ (states ≤ mostStates) × (length (now targets) ≡ tableSize) × (length (now costs) ≡ tableSize) × (states ≤ length (now front)) × (length (now needs) ≡ 256) × (v .0 < mostValues) × (length (now hints) ≡ mostValues) × Low states (now front) × LiveHeld states (now front) (now live) × Low 256 (now needs) ⌝ }
+    ensures { λ r. ⌜ (r .0 ≡ maskOf (λ u. bit (kept .0) u || (joins (turned (now (targets .entry)) (now (costs .entry))) (now (front .entry)) (now (needs .entry)) (v .0) states && eqb u (v .0))) width) × LiveHeld states (now (front .entry)) (now (live .exit)) ⌝ }
 {
-    let on = supported(states, targets, costs, front, live, next, Value(v.0), hints);
+    let on = supported(
+        states,
+        targets,
+        costs,
+        front,
+        live,
+        needs,
+        Value(v.0),
+        hints,
+    );
     marked(kept, v, on)
 }
 
@@ -200,26 +218,24 @@ pub(crate) fn keep(
     costs: &[u16],
     mask: Mask,
     front: &[u32],
-    next: &[u32],
+    needs: &[u32],
     hints: &mut [u8],
 ) -> Mask
-    requires { ⌜ (states ≤ mostStates) × (values ≤ mostValues) × (length (now targets) ≡ tableSize) × (length (now costs) ≡ tableSize) × (states ≤ length (now front)) × (length (now next) ≡ 256) × (length (now hints) ≡ mostValues) × Low states (now front) × Rooms (now next) ⌝ }
-    ensures { λ r. ⌜ Keeps (turned (now (targets .entry)) (now (costs .entry))) states (choices values (mask .0)) (now (front .entry)) (now (next .entry)) (r .0) ⌝ }
+    requires { ⌜ (states ≤ mostStates) × (values ≤ mostValues) × (length (now targets) ≡ tableSize) × (length (now costs) ≡ tableSize) × (states ≤ length (now front)) × (length (now needs) ≡ 256) × (length (now hints) ≡ mostValues) × Low states (now front) × Low 256 (now needs) ⌝ }
+    ensures { λ r. ⌜ Keeps (turned (now (targets .entry)) (now (costs .entry))) states (choices values (mask .0)) (now (front .entry)) (now (needs .entry)) (r .0) ⌝ }
 {
     let mut live: u64 = 0;
     let mut kept = Mask::EMPTY;
     let mut v = Value(0);
     while (v.0 as usize) < values {
         if mask.has(Value(v.0)) {
-            let at = turned_at(State(0), Value(v.0));
-            let end = at + bounds::MOST_STATES;
             kept = look(
                 states,
-                &targets[at..end],
-                &costs[at..end],
+                targets,
+                costs,
                 front,
                 &mut live,
-                next,
+                needs,
                 Value(v.0),
                 kept,
                 hints,
@@ -254,6 +270,31 @@ pub(crate) fn sweep(
     }
 }
 
+// The least costs one place on by the rows of the arcs into each state, if they serve for the mask and no arc that they leave out could
+// better them. Else the row is blank again.
+pub(crate) fn pulled(
+    states: usize,
+    values: usize,
+    mask: Mask,
+    front: &[u32],
+    rests: &[u32],
+    into: &[u32],
+    onward: &mut [u32],
+) -> bool
+    requires { ⌜ (states ≤ mostStates) × (values ≤ mostValues) × (mostStates ≤ length (now front)) × (states ≤ length (now onward)) × Low states (now front) × Blank states (now onward) ⌝ }
+    ensures { λ r. ⌜ Pulled states values (mask .0) (now (front .entry)) (now (rests .entry)) (now (into .entry)) (now (onward .exit)) r ⌝ }
+{
+    if !pull::serves(values, mask, into) {
+        return false;
+    }
+    let low = pull::pull(states, front, into, onward);
+    if pull::settled(states, low, rests, onward) {
+        return true;
+    }
+    rows::blank(states, TOP + 1, onward);
+    false
+}
+
 // The least costs one place on: those of a slot with their rise, if its front and mask are these, which with equal masks they soon
 // are; else by the looks. Says which.
 pub(crate) fn gather(
@@ -261,6 +302,8 @@ pub(crate) fn gather(
     values: usize,
     targets: &[u8],
     costs: &[u16],
+    rests: &[u32],
+    into: &[u32],
     mask: Mask,
     slot: usize,
     front: &[u32],
@@ -269,7 +312,7 @@ pub(crate) fn gather(
     held: &[u16],
     onward: &mut [u32],
 ) -> bool
-    requires { ⌜ (1 ≤ states) × (states ≤ mostStates) × (values ≤ mostValues) × (length (now targets) ≡ tableSize) × (length (now costs) ≡ tableSize) × (slot < 8) × (states ≤ length (now front)) × (length (now fronts) ≡ 512) × (length (now onwards) ≡ 512) × (length (now held) ≡ 8) × (length (now onward) ≡ 256) × Low states (now front) × Blank states (now onward) × Past (turned (now targets) (now costs)) states values (now fronts) (now onwards) (now held) ⌝ }
+    requires { ⌜ (1 ≤ states) × (states ≤ mostStates) × (values ≤ mostValues) × (length (now targets) ≡ tableSize) × (length (now costs) ≡ tableSize) × (slot < 8) × (mostStates ≤ length (now front)) × (length (now fronts) ≡ 512) × (length (now onwards) ≡ 512) × (length (now held) ≡ 8) × (length (now onward) ≡ 256) × Low states (now front) × Blank states (now onward) × Past (turned (now targets) (now costs)) states values (now fronts) (now onwards) (now held) × (length (now into) ≡ tableSize → Arrives (turned (now targets) (now costs)) states values (now rests) (now into)) ⌝ }
     ensures { λ _. ⌜ Spread (turned (now (targets .entry)) (now (costs .entry))) states (choices values (mask .0)) (now (front .entry)) (now (onward .exit)) ⌝ }
 {
     let rise = past::rise_to(states, Mask(mask.0), slot, front, fronts, held);
@@ -279,7 +322,9 @@ pub(crate) fn gather(
         past::lift(states, rise, &onwards[at..end], onward);
         return true;
     }
-    sweep(states, values, targets, costs, mask, front, onward);
+    if !pulled(states, values, Mask(mask.0), front, rests, into, onward) {
+        sweep(states, values, targets, costs, mask, front, onward);
+    }
     false
 }
 
@@ -305,6 +350,8 @@ pub(crate) fn spread(
     values: usize,
     targets: &[u8],
     costs: &[u16],
+    rests: &[u32],
+    into: &[u32],
     mask: Mask,
     place: usize,
     again: bool,
@@ -315,7 +362,7 @@ pub(crate) fn spread(
     onwards: &mut [u32],
     held: &mut [u16],
 ) -> usize
-    requires { ⌜ (1 ≤ states) × (states ≤ mostStates) × (values ≤ mostValues) × (length (now targets) ≡ tableSize) × (length (now costs) ≡ tableSize) × (place ≤ mostPlaces) × (1 ≤ span) × (span ≤ 8) × (states ≤ length (now front)) × (length (now onward) ≡ 256) × (length (now fronts) ≡ 512) × (length (now onwards) ≡ 512) × (length (now held) ≡ 8) × Low states (now front) × Blank states (now onward) × Past (turned (now targets) (now costs)) states values (now fronts) (now onwards) (now held) ⌝ }
+    requires { ⌜ (1 ≤ states) × (states ≤ mostStates) × (values ≤ mostValues) × (length (now targets) ≡ tableSize) × (length (now costs) ≡ tableSize) × (place ≤ mostPlaces) × (1 ≤ span) × (span ≤ 8) × (mostStates ≤ length (now front)) × (length (now onward) ≡ 256) × (length (now fronts) ≡ 512) × (length (now onwards) ≡ 512) × (length (now held) ≡ 8) × Low states (now front) × Blank states (now onward) × Past (turned (now targets) (now costs)) states values (now fronts) (now onwards) (now held) × (length (now into) ≡ tableSize → Arrives (turned (now targets) (now costs)) states values (now rests) (now into)) ⌝ }
     ensures { λ r. ⌜ (1 ≤ r) × (r ≤ 8) × Spread (turned (now (targets .entry)) (now (costs .entry))) states (choices values (mask .0)) (now (front .entry)) (now (onward .exit)) × Past (turned (now (targets .entry)) (now (costs .entry))) states values (now (fronts .exit)) (now (onwards .exit)) (now (held .exit)) ⌝ }
 {
     let like = slot_of(place, span);
@@ -324,6 +371,8 @@ pub(crate) fn spread(
         values,
         targets,
         costs,
+        rests,
+        into,
         Mask(mask.0),
         like,
         front,
@@ -342,12 +391,12 @@ pub(crate) fn spread(
 }
 
 // The front before the first place: the start alone, at the cost already spent, if a roster goes on from there.
-pub(crate) fn open_front(states: usize, start: State, spent: u32, room: u32, front: &mut [u32])
-    requires { ⌜ (start .0 < states) × (states ≤ length (now front)) ⌝ }
-    ensures { λ _. ⌜ Opened states (start .0) spent room (now (front .exit)) ⌝ }
+pub(crate) fn open_front(states: usize, start: State, spent: u32, need: u32, front: &mut [u32])
+    requires { ⌜ (start .0 < states) × (states ≤ length (now front)) × (spent ≤ suc top) × (need ≤ suc top) ⌝ }
+    ensures { λ _. ⌜ Opened states (start .0) spent (suc top - need) (now (front .exit)) ⌝ }
 {
     rows::blank(states, TOP + 1, front);
-    front[start.0 as usize] = strike(spent, room);
+    front[start.0 as usize] = strike(spent, need);
 }
 
 // One place: gives its kept mask, and moves the front one place on.
@@ -356,23 +405,25 @@ pub(crate) fn step(
     values: usize,
     targets: &[u8],
     costs: &[u16],
+    rests: &[u32],
+    into: &[u32],
     mask: Mask,
     place: usize,
     again: bool,
     row: &[u32],
     span: &mut usize,
     front: &mut [u32],
-    next: &mut [u32],
+    needs: &mut [u32],
     onward: &mut [u32],
     hints: &mut [u8],
     fronts: &mut [u32],
     onwards: &mut [u32],
     held: &mut [u16],
 ) -> Mask
-    requires { ⌜ (1 ≤ states) × (states ≤ mostStates) × (values ≤ mostValues) × (length (now targets) ≡ tableSize) × (length (now costs) ≡ tableSize) × (place ≤ mostPlaces) × (states ≤ length (now row)) × (1 ≤ now span) × (now span ≤ 8) × (states ≤ length (now front)) × (length (now next) ≡ 256) × (length (now onward) ≡ 256) × (length (now hints) ≡ mostValues) × (length (now fronts) ≡ 512) × (length (now onwards) ≡ 512) × (length (now held) ≡ 8) × Low states (now front) × Low states (now row) × Loaded (λ t. getD (now next) t 0) states (now next) × Blank states (now onward) × Past (turned (now targets) (now costs)) states values (now fronts) (now onwards) (now held) ⌝ }
-    ensures { λ r. ⌜ Stepped (turned (now (targets .entry)) (now (costs .entry))) states (choices values (mask .0)) (now (row .entry)) (now (front .entry)) (now (next .entry)) (now (onward .entry)) (now (front .exit)) (now (next .exit)) (now (onward .exit)) (r .0) × (1 ≤ now (span .exit)) × (now (span .exit) ≤ 8) × Past (turned (now (targets .entry)) (now (costs .entry))) states values (now (fronts .exit)) (now (onwards .exit)) (now (held .exit)) ⌝ }
+    requires { ⌜ (1 ≤ states) × (states ≤ mostStates) × (values ≤ mostValues) × (length (now targets) ≡ tableSize) × (length (now costs) ≡ tableSize) × (place ≤ mostPlaces) × (states ≤ length (now row)) × (1 ≤ now span) × (now span ≤ 8) × (mostStates ≤ length (now front)) × (length (now needs) ≡ 256) × (length (now onward) ≡ 256) × (length (now hints) ≡ mostValues) × (length (now fronts) ≡ 512) × (length (now onwards) ≡ 512) × (length (now held) ≡ 8) × Low states (now front) × Low states (now row) × Bare states (now needs) × Blank states (now onward) × Past (turned (now targets) (now costs)) states values (now fronts) (now onwards) (now held) × (length (now into) ≡ tableSize → Arrives (turned (now targets) (now costs)) states values (now rests) (now into)) ⌝ }
+    ensures { λ r. ⌜ Stepped (turned (now (targets .entry)) (now (costs .entry))) states (choices values (mask .0)) (now (row .entry)) (now (front .entry)) (now (needs .entry)) (now (onward .entry)) (now (front .exit)) (now (needs .exit)) (now (onward .exit)) (r .0) × (1 ≤ now (span .exit)) × (now (span .exit) ≤ 8) × Past (turned (now (targets .entry)) (now (costs .entry))) states values (now (fronts .exit)) (now (onwards .exit)) (now (held .exit)) ⌝ }
 {
-    rows::copy(states, row, next);
+    rows::copy(states, row, needs);
     let kept = keep(
         states,
         values,
@@ -380,7 +431,7 @@ pub(crate) fn step(
         costs,
         Mask(mask.0),
         front,
-        next,
+        needs,
         hints,
     );
     *span = spread(
@@ -388,6 +439,8 @@ pub(crate) fn step(
         values,
         targets,
         costs,
+        rests,
+        into,
         mask,
         place,
         again,
@@ -398,7 +451,7 @@ pub(crate) fn step(
         onwards,
         held,
     );
-    advance(states, next, front, onward);
+    advance(states, needs, front, onward);
     kept
 }
 
@@ -418,17 +471,19 @@ pub(crate) fn pass(
     values: usize,
     targets: &[u8],
     costs: &[u16],
+    rests: &[u32],
+    into: &[u32],
     start: State,
     spent: u32,
     masks: &[u16],
     work: &[u32],
     kept: &mut [u16],
 ) -> u32
-    requires { ⌜ Sizes states values (now targets) (now costs) (now masks) (now masks) (now work) × LowRows states (length (now masks)) (now work) × (start .0 < states) × (spent ≤ top) × (length (now kept) ≡ length (now masks)) ⌝ }
+    requires { ⌜ Sizes states values (now targets) (now costs) (now masks) (now masks) (now work) × LowRows states (length (now masks)) (now work) × (start .0 < states) × (spent ≤ top) × (length (now kept) ≡ length (now masks)) × (length (now into) ≡ tableSize → Arrives (turned (now targets) (now costs)) states values (now rests) (now into)) ⌝ }
     ensures { λ r. ⌜ Tells (turned (now (targets .entry)) (now (costs .entry))) states values (start .0) spent (now (masks .entry)) (now (work .entry)) (now (kept .exit)) r ⌝ }
 {
     let mut front = [0u32; bounds::MOST_STATES];
-    let mut next = [0u32; BYTES];
+    let mut needs = [TOP + 1; BYTES];
     let mut onward = [0u32; BYTES];
     let mut hints = [0u8; bounds::MOST_VALUES];
     let mut fronts = [0u32; PAST];
@@ -446,13 +501,15 @@ pub(crate) fn pass(
             values,
             targets,
             costs,
+            rests,
+            into,
             Mask(masks[i]),
             i,
             again(masks, i),
             &work[at..end],
             &mut span,
             &mut front,
-            &mut next,
+            &mut needs,
             &mut onward,
             &mut hints,
             &mut fronts,

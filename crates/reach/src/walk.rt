@@ -3,7 +3,7 @@ ghost use mathlib.Core.Path.{_≡_};
 ghost use Prim.Native.Nat.{_+_, _*_, _≤_, _<_};
 ghost use lib.ListN.{length};
 ghost use Rattle.meaning.specs.Bounds.{mostStates, mostValues, tableSize, top};
-ghost use Rattle.rooms.specs.Tables.{turned, Sizes};
+ghost use Rattle.rooms.specs.Tables.{turned, Sizes, Low};
 ghost use Rattle.reach.specs.Looks.{takeable, LowRows, Walks};
 use kinds::Mask;
 use kinds::State;
@@ -12,25 +12,26 @@ use rooms::backward::BYTES;
 use rooms::rows;
 use rooms::turn::turned_at;
 use rules::bounds;
+use rules::bounds::TOP;
 
 // Whether a value can be taken at a state, with a cost spent, so that a roster goes on.
 pub(crate) fn takeable(
     targets: &[u8],
     costs: &[u16],
-    next: &[u32],
+    needs: &[u32],
     mask: Mask,
     q: State,
     spent: u32,
     v: Value,
 ) -> bool
-    requires { ⌜ (length (now targets) ≡ tableSize) × (length (now costs) ≡ tableSize) × (length (now next) ≡ 256) × (q .0 < mostStates) × (spent ≤ top) × (v .0 < mostValues) ⌝ }
-    ensures { λ r. ⌜ r ≡ takeable (turned (now (targets .entry)) (now (costs .entry))) (now (next .entry)) (mask .0) (q .0) spent (v .0) ⌝ }
+    requires { ⌜ (length (now targets) ≡ tableSize) × (length (now costs) ≡ tableSize) × (length (now needs) ≡ 256) × (q .0 < mostStates) × (spent ≤ top) × (v .0 < mostValues) × Low 256 (now needs) ⌝ }
+    ensures { λ r. ⌜ r ≡ takeable (turned (now (targets .entry)) (now (costs .entry))) (now (needs .entry)) (mask .0) (q .0) spent (v .0) ⌝ }
 {
     if !mask.has(Value(v.0)) {
         return false;
     }
     let at = turned_at(q, v);
-    spent + (costs[at] as u32) < next[targets[at] as usize]
+    spent + (costs[at] as u32) + needs[targets[at] as usize] <= TOP
 }
 
 // Writes the first roster, and says whether there is one. None can be missing but at the first place, so nothing is written then.
@@ -48,14 +49,14 @@ pub(crate) fn walk(
     requires { ⌜ Sizes states values (now targets) (now costs) (now masks) (now masks) (now work) × LowRows states (length (now masks)) (now work) × (start .0 < states) × (spent ≤ top) × (length (now roster) ≡ length (now masks)) ⌝ }
     ensures { λ r. ⌜ Walks (turned (now (targets .entry)) (now (costs .entry))) states values (start .0) spent (now (masks .entry)) (now (work .entry)) (now (roster .entry)) (now (roster .exit)) r ⌝ }
 {
-    let mut next = [0u32; BYTES];
+    let mut needs = [TOP + 1; BYTES];
     let mut q = start;
     let mut cost = spent;
     let mut i: usize = 0;
     'places: while i < masks.len() {
         let row = (i + 1) * bounds::MOST_STATES;
         let end = row + bounds::MOST_STATES;
-        rows::copy(states, &work[row..end], &mut next);
+        rows::copy(states, &work[row..end], &mut needs);
         let mut v = Value(0);
         let chosen = loop {
             if values <= (v.0 as usize) {
@@ -64,7 +65,7 @@ pub(crate) fn walk(
             if takeable(
                 targets,
                 costs,
-                &next,
+                &needs,
                 Mask(masks[i]),
                 State(q.0),
                 cost,

@@ -1,5 +1,5 @@
--- Layers that are other layers less a fall, and a table wiped in both halves at once.
-use mathlib.Core.Path.{_≡_, refl, sym, ap, _∙_, subst}
+-- Layers whose rooms are those of other layers less a fall, so that their needs rise, and a table wiped in both halves at once.
+use mathlib.Core.Path.{_≡_, sym, ap, _∙_, subst}
 use mathlib.Core.Bool.{Bool, true}
 use mathlib.Core.List.{List, [], _∷_}
 use Prim.Native.Nat.{ℕ, suc, _+_, _*_, _-_, _≤_, _<_, min, max}
@@ -8,58 +8,25 @@ use native.Mathlib.Omega.{arith}
 use native.Mathlib.Decide.{ℕ-discrete, decLt}
 use lib.ListN.{length, getD, set, replicate, take, drop, length-replicate, getD-replicate, length-set}
 use lib.Seq.{getD-set-same, getD-set-other, ext-getD}
-use borrow.Author.Tests.{lt-ltb}
 use Rattle.meaning.specs.Bounds.{top}
 use Rattle.rules.specs.Answers.{zeros}
-use Rattle.rooms.specs.Tables.{copied, Net, turned, choices, best, capped, before, Frame, frame, room, layer, Layers, Laid, Loaded, Filled, Matches, Clear, free, high, LikeLayer, Lays}
-use borrow.Rule.Slice.PartMut.{putMid, midOf, mid-len}
-use Rattle.rooms.proofs.Filling.{copied-filled, row-part, laid-put, laid-outside}
-use Rattle.rooms.proofs.Layering.{drop-places, layer-none, layers-lay, layers-more}
-
--- a row laid as another one of the table, less a fall
-pub laid-like : (n like fall cap i : ℕ) (work ys next now : List ℕ) → n ≤ 64 → i * 64 + 64 ≤ length work → n ≤ length now → length ys ≡ length (midOf (i * 64) (i * 64 + 64 - i * 64) work)
-    → Filled (λ k. min cap (getD (take (like * 64 + 64 - like * 64) (drop (like * 64) work)) k 0 - fall)) n next now
-    → ys ≡ copied n now (midOf (i * 64) (i * 64 + 64 - i * 64) work)
-    → Laid (λ q. min cap (getD work (like * 64 + q) 0 - fall)) n i work (putMid (i * 64) (i * 64 + 64 - i * 64) work ys)
-    × Filled (λ q. min cap (getD work (like * 64 + q) 0 - fall)) n next now
-laid-like n like fall cap i work ys next now h l o e b y =
-    (laid-put i (i * 64) work ys h refl l e (record { done = λ q k. c .done q k ∙ done q k; left = c .left }), record { done = done; left = b .left })
-  where
-    c : Filled (λ k. getD now k 0) n (midOf (i * 64) (i * 64 + 64 - i * 64) work) ys
-    c = copied-filled n now o (omega (arith, mid-len (i * 64) (i * 64 + 64) work l)) y
-
-    done : (q : ℕ) → q < n → getD now q 0 ≡ min cap (getD work (like * 64 + q) 0 - fall)
-    done q k = b .done q k ∙ ap (λ (x : ℕ). min cap (x - fall)) (row-part work like (like * 64 + 64 - like * 64) q (omega arith))
-
--- a row that was filled in its place, and then laid as itself behind a limit
-pub laid-over : {g : ℕ → ℕ} {n i : ℕ} (cap : ℕ) (work : List ℕ) {ys is next now : List ℕ} → n ≤ 64 → i * 64 + 64 ≤ length work → length ys ≡ length (midOf (i * 64) (i * 64 + 64 - i * 64) work)
-    → Filled g n (midOf (i * 64) (i * 64 + 64 - i * 64) work) ys
-    → Laid (λ q. min cap (getD (putMid (i * 64) (i * 64 + 64 - i * 64) work ys) (i * 64 + q) 0 - 0)) n i (putMid (i * 64) (i * 64 + 64 - i * 64) work ys) is
-    × Filled (λ q. min cap (getD (putMid (i * 64) (i * 64 + 64 - i * 64) work ys) (i * 64 + q) 0 - 0)) n next now
-    → Laid (λ q. min cap (g q)) n i work is × Filled (λ q. min cap (g q)) n next now
-laid-over {g} {n} {i} cap work {ys} h l e f y = (
-  record { row = λ q k. y .0 .row q k ∙ cut q k; others = λ j q m d. y .0 .others j q m d ∙ r .others j q m d },
-  record { done = λ q k. y .1 .done q k ∙ cut q k; left = y .1 .left },
-)
-  where
-    r : Laid g n i work (putMid (i * 64) (i * 64 + 64 - i * 64) work ys)
-    r = laid-put i (i * 64) work ys h refl l e f
-
-    cut : (q : ℕ) → q < n → min cap (getD (putMid (i * 64) (i * 64 + 64 - i * 64) work ys) (i * 64 + q) 0 - 0) ≡ min cap (g q)
-    cut q k = omega (arith, r .row q k)
+use Rattle.rooms.specs.Tables.{Net, choices, best, need, needAt, roomsBy, capped, before, Frame, frame, layer, Layers, Laid, Needed, Filled, Matches, Clear, free, high, LikeLayer, Lays}
+use Rattle.rooms.proofs.Filling.{within, row-part, laid-outside}
+use Rattle.rooms.proofs.Layering.{layer-none, layer-low, layer-best, more-row, layers-lay}
 
 -- whether two layers are alike, as the code finds it
-pub alike-not : (n : ℕ) (ms ls : List ℕ) (i like : ℕ) (next work : List ℕ) → LikeLayer n 366002 ms ls i like next work
+pub alike-not : (n : ℕ) (ms ls : List ℕ) (i like : ℕ) (needs work : List ℕ) → LikeLayer n 366002 ms ls i like needs work
 unfolding top
-alike-not n ms ls i like next work = record { mask = λ e. absurd (omega arith); clear = λ e. absurd (omega arith); row = λ e. absurd (omega arith) }
+alike-not n ms ls i like needs work = record { mask = λ e. absurd (omega arith); clear = λ e. absurd (omega arith); row = λ e. absurd (omega arith) }
 
-pub alike-is : {n fall : ℕ} {ms ls : List ℕ} {i like : ℕ} {next work : List ℕ} {b clear : Bool} (cap other : ℕ) → n ≤ 64 → getD ms i 0 ≡ getD ms like 0
-    → cap ≡ suc (min (before ls i) top) → other ≡ suc (min (before ls like) top) → (clear ≡ true → Clear cap other fall) → clear ≡ true
-    → Matches (λ k. getD (take ((like + 1) * 64 + 64 - (like + 1) * 64) (drop ((like + 1) * 64) work)) k 0 - fall) n next b → b ≡ true → LikeLayer n fall ms ls i like next work
-alike-is {n} {fall} {ms} {ls} {i} {like} {next} {work} cap other h m e o t k f d = record {
+pub alike-is : {n rise : ℕ} {ms ls : List ℕ} {i like : ℕ} {needs work : List ℕ} {b clear : Bool} (least other : ℕ) → n ≤ 64 → getD ms i 0 ≡ getD ms like 0
+    → least ≡ top - before ls i → other ≡ top - before ls like → (clear ≡ true → Clear least other rise) → clear ≡ true
+    → Matches (λ k. min (suc top) (getD (take ((like + 1) * 64 + 64 - (like + 1) * 64) (drop ((like + 1) * 64) work)) k 0 + rise)) n needs b → b ≡ true
+    → LikeLayer n rise ms ls i like needs work
+alike-is {n} {rise} {ms} {ls} {i} {like} {needs} {work} least other h m e o t k f d = record {
   mask = λ z. m;
   clear = λ z. rw (e, o) at (t k);
-  row = λ z q l. f .is d q l ∙ ap (λ (x : ℕ). x - fall) (row-part work (like + 1) ((like + 1) * 64 + 64 - (like + 1) * 64) q (omega arith));
+  row = λ z q l. f .is d q l ∙ ap (λ (x : ℕ). min (suc top) (x + rise)) (row-part work (like + 1) ((like + 1) * 64 + 64 - (like + 1) * 64) q (omega arith));
 }
 
 -- the first k numbers of a table wiped, and k from `back` on
@@ -113,73 +80,72 @@ module _ (a : Net) (q : ℕ) where
   best-low g most h [] = omega arith
   best-low g most h (v ∷ vs) = omega (arith, h (a .to q v), best-low g most h vs)
 
+-- needs behind a limit and with a rise, and a limit that is out of the way
+need-capped : (l room : ℕ) → need (capped l room) ≡ max (top - l) (need room)
+need-capped l room = omega arith
+
+need-rises : (room rise : ℕ) → room ≤ suc top → need (room - rise) ≡ min (suc top) (need room + rise)
+need-rises room rise h = omega arith
+
+clear-least : {least other rise : ℕ} (x : ℕ) → Clear least other rise → max least (min (suc top) (max other x + rise)) ≡ max least (min (suc top) (x + rise))
+clear-least x (free h) = omega arith
+clear-least x (high h) = omega arith
+
 module _ (f : Frame) (ms ls : List ℕ) (same : length ls ≡ length ms) where
-  -- a layer before the last, from the layer behind it
-  layer-best : (i q : ℕ) → i < length ms → q < f .states
-      → layer f ms ls i q ≡ capped (before ls i) (best (f .net) (layer f ms ls (suc i)) q (choices (f .values) (getD ms i 0)))
-  unfolding layer room
-  layer-best i q h hq = rw (drop-places ms ls i same h, lt-ltb q (f .states) hq)
-
-  layer-low : (i q : ℕ) → layer f ms ls i q ≤ suc top
-  unfolding layer
-  layer-low i q = omega arith
-
-  -- a room that fell behind a cap which is out of the way
-  clear-cap : {cap other fall : ℕ} (x : ℕ) → Clear cap other fall → x ≤ suc top → min cap (min other x - fall) ≡ min cap (x - fall)
-  clear-cap x (free h) k = omega arith
-  clear-cap x (high h) k = omega arith
-
-  pub layer-like : (i like fall q : ℕ) → i < length ms → like < length ms → q < f .states → getD ms i 0 ≡ getD ms like 0
-      → Clear (suc (min (before ls i) top)) (suc (min (before ls like) top)) fall
-      → ((t : ℕ) → t < f .states → layer f ms ls (suc i) t ≡ layer f ms ls (suc like) t - fall)
-      → min (suc (min (before ls i) top)) (layer f ms ls like q - fall) ≡ layer f ms ls i q
-  layer-like i like fall q hi hl hq m t row =
-      let n : _≡_ {A = ℕ → ℕ} (layer f ms ls (suc i)) (λ t. layer f ms ls (suc like) t - fall) = λ j t. all t (decLt t (f .states)) j in
-      let b = best-falls (f .net) q (layer f ms ls (suc like)) fall (choices (f .values) (getD ms like 0)) in
-      let l = best-low (f .net) q (layer f ms ls (suc like)) (suc top) (layer-low (suc like)) (choices (f .values) (getD ms like 0)) in
-      rw (layer-best i q hi hq, layer-best like q hl hq, n, m, b) (clear-cap (best (f .net) (layer f ms ls (suc like)) q (choices (f .values) (getD ms like 0))) t l)
+  pub layer-like : (i like rise q : ℕ) → i < length ms → like < length ms → q < f .states → getD ms i 0 ≡ getD ms like 0 → Clear (top - before ls i) (top - before ls like) rise
+      → ((t : ℕ) → t < f .states → layer f ms ls (suc i) t ≡ layer f ms ls (suc like) t - rise)
+      → max (top - before ls i) (min (suc top) (need (layer f ms ls like q) + rise)) ≡ need (layer f ms ls i q)
+  layer-like i like rise q hi hl hq m t row =
+      let n : _≡_ {A = ℕ → ℕ} (layer f ms ls (suc i)) (λ t. layer f ms ls (suc like) t - rise) = λ j t. all t (decLt t (f .states)) j in
+      let b = best-falls (f .net) q (layer f ms ls (suc like)) rise (choices (f .values) (getD ms like 0)) in
+      let l = best-low (f .net) q (layer f ms ls (suc like)) (suc top) (layer-low f ms ls same (suc like)) (choices (f .values) (getD ms like 0)) in
+      let r : ℕ = best (f .net) (layer f ms ls (suc like)) q (choices (f .values) (getD ms like 0)) in
+      rw (layer-best f ms ls same i q hi hq, layer-best f ms ls same like q hl hq, n, m, b, need-capped (before ls like) r, need-capped (before ls i) (r - rise), need-rises r rise l)
+      (clear-least (need r) t)
     where
-      all : (t : ℕ) → Dec (t < f .states) → layer f ms ls (suc i) t ≡ layer f ms ls (suc like) t - fall
+      all : (t : ℕ) → Dec (t < f .states) → layer f ms ls (suc i) t ≡ layer f ms ls (suc like) t - rise
       all t (yes h) = row t h
       all t (no h) = layer-none f ms ls same (suc i) t (omega arith) ∙ omega (arith, layer-none f ms ls same (suc like) t (omega arith))
 
--- layer i, laid as a layer that is alike
-pub lays-like : (a : Net) (qs vs : ℕ) (ms ls : List ℕ) (i like fall cap : ℕ) (next work next′ work′ : List ℕ) → qs ≤ 64 → length ls ≡ length ms → i < like → like < length ms
-    → cap ≡ suc (min (before ls i) top) → LikeLayer qs fall ms ls i like next work → fall ≤ suc top
-    → Laid (λ q. min cap (getD work (like * 64 + q) 0 - fall)) qs i work work′ × Filled (λ q. min cap (getD work (like * 64 + q) 0 - fall)) qs next next′
-    → Lays a qs vs ms ls i next work next′ work′
-lays-like a qs vs ms ls i like fall cap next work next′ work′ few same hi hl e k t y = record { right = right; beside = laid-outside (omega arith) (y .0) }
-  where
-    right : (accepting : ℕ) → Layers (frame a qs vs accepting) ms ls (i + 1) work × Loaded (layer (frame a qs vs accepting) ms ls (i + 1)) qs next
-        → Layers (frame a qs vs accepting) ms ls i work′ × Loaded (layer (frame a qs vs accepting) ms ls i) qs next′
-    right accepting r = layers-lay f ms ls same (λ q. min cap (getD work (like * 64 + q) 0 - fall)) i few (omega arith) is r y
-      where
-        f : Frame
-        f = frame a qs vs accepting
+-- layer i laid, as a layer that is alike or from the next row
+module _ (a : Net) (qs vs : ℕ) (ms ls : List ℕ) (i least : ℕ) (needs work needs′ work′ : List ℕ) (few : qs ≤ 64) (same : length ls ≡ length ms) (cut : least ≡ top - before ls i)
+    (all : length needs ≡ 256) (long : length needs′ ≡ length needs) where
+  pub lays-like : (like rise : ℕ) → i < like → like < length ms → LikeLayer qs rise ms ls i like needs work → rise ≤ suc top
+      → Laid (λ q. max least (min (suc top) (getD work (like * 64 + q) 0 + rise))) qs i work work′
+      × Filled (λ q. max least (min (suc top) (getD work (like * 64 + q) 0 + rise))) qs needs needs′
+      → Lays a qs vs ms ls i needs work needs′ work′
+  lays-like like rise hi hl k t y = record { right = right; beside = laid-outside (omega arith) (y .0) }
+    where
+      right : (accepting : ℕ) → Layers (frame a qs vs accepting) ms ls (i + 1) work × Needed (layer (frame a qs vs accepting) ms ls (i + 1)) qs needs
+          → Layers (frame a qs vs accepting) ms ls i work′ × Needed (layer (frame a qs vs accepting) ms ls i) qs needs′
+      right accepting r = layers-lay f ms ls same (λ q. max least (min (suc top) (getD work (like * 64 + q) 0 + rise))) i few all long (omega arith) is r y
+        where
+          f : Frame
+          f = frame a qs vs accepting
 
-        behind : (q : ℕ) → q < qs → layer f ms ls (suc i) q ≡ layer f ms ls (suc like) q - fall
-        behind q h =
-            let m : getD next q 0 ≡ layer f ms ls (suc i) q = rw add-one at (r .1 .done q h) in
-            let n : getD work ((like + 1) * 64 + q) 0 ≡ layer f ms ls (suc like) q = rw add-one (r .0 .right (suc like) q (omega arith) (omega arith) h) in
-            sym m ∙ (k .row t q h ∙ ap (λ (x : ℕ). x - fall) n)
+          behind : (q : ℕ) → q < qs → layer f ms ls (suc i) q ≡ layer f ms ls (suc like) q - rise
+          behind q h =
+              let m : needAt needs q ≡ need (layer f ms ls (suc i) q) = rw add-one at (r .1 .done q h) in
+              let n : getD work ((like + 1) * 64 + q) 0 ≡ need (layer f ms ls (suc like) q) = rw add-one (r .0 .right (suc like) q (omega arith) (omega arith) h) in
+              omega (arith, within needs q 0 (suc top) (omega arith), k .row t q h, layer-low f ms ls same (suc i) q, layer-low f ms ls same (suc like) q)
 
-        is : (q : ℕ) → q < qs → min cap (getD work (like * 64 + q) 0 - fall) ≡ layer f ms ls i q
-        is q h = rw (e, r .0 .right like q (omega arith) (omega arith) h) (layer-like f ms ls same i like fall q (omega arith) hl h (k .mask t) (k .clear t) behind)
+          is : (q : ℕ) → q < qs → max least (min (suc top) (getD work (like * 64 + q) 0 + rise)) ≡ need (layer f ms ls i q)
+          is q h = rw (cut, r .0 .right like q (omega arith) (omega arith) h) (layer-like f ms ls same i like rise q (omega arith) hl h (k .mask t) (k .clear t) behind)
 
-pub lays-more : (ts cs : List ℕ) (qs vs : ℕ) (ms ls : List ℕ) (i cap : ℕ) (next work next′ work′ : List ℕ) → qs ≤ 64 → length ls ≡ length ms → i < length ms
-    → cap ≡ suc (min (before ls i) top)
-    → Laid (λ q. min cap (best (turned ts cs) (λ t. getD next t 0) q (choices vs (getD ms i 0)))) qs i work work′
-    × Filled (λ q. min cap (best (turned ts cs) (λ t. getD next t 0) q (choices vs (getD ms i 0)))) qs next next′
-    → Lays (turned ts cs) qs vs ms ls i next work next′ work′
-lays-more ts cs qs vs ms ls i cap next work next′ work′ few same h e y = record {
-  right = λ accepting r. layers-more (frame (turned ts cs) qs vs accepting) ms ls same i cap work work′ next next′ few h e r y;
-  beside = laid-outside (omega arith) (y .0);
-}
+  pub lays-more : i < length ms
+      → Laid (λ q. max (need (best a (roomsBy needs) q (choices vs (getD ms i 0)))) least) qs i work work′
+      × Filled (λ q. max (need (best a (roomsBy needs) q (choices vs (getD ms i 0)))) least) qs needs needs′
+      → Lays a qs vs ms ls i needs work needs′ work′
+  lays-more h y = record {
+    right = λ accepting r. layers-lay (frame a qs vs accepting) ms ls same (λ q. max (need (best a (roomsBy needs) q (choices vs (getD ms i 0)))) least) i few all long h
+        (λ q hq. more-row (frame a qs vs accepting) ms ls same i least q needs h cut (rw add-one at (r .1)) hq) r y;
+    beside = laid-outside (omega arith) (y .0);
+  }
 
 -- one layer more, the last first
-pub lays-down : {a : Net} {qs vs i : ℕ} {ms ls next work next′ work′ : List ℕ} (accepting : ℕ) → 0 < i → Lays a qs vs ms ls (i - 1) next work next′ work′
-    → Layers (frame a qs vs accepting) ms ls i work × Loaded (layer (frame a qs vs accepting) ms ls i) qs next
-    → Layers (frame a qs vs accepting) ms ls (i - 1) work′ × Loaded (layer (frame a qs vs accepting) ms ls (i - 1)) qs next′
-lays-down {a} {qs} {vs} {i} {ms} {ls} {next} {work} accepting h y r =
+pub lays-down : {a : Net} {qs vs i : ℕ} {ms ls needs work needs′ work′ : List ℕ} (accepting : ℕ) → 0 < i → Lays a qs vs ms ls (i - 1) needs work needs′ work′
+    → Layers (frame a qs vs accepting) ms ls i work × Needed (layer (frame a qs vs accepting) ms ls i) qs needs
+    → Layers (frame a qs vs accepting) ms ls (i - 1) work′ × Needed (layer (frame a qs vs accepting) ms ls (i - 1)) qs needs′
+lays-down {a} {qs} {vs} {i} {ms} {ls} {needs} {work} accepting h y r =
     let d : i ≡ i - 1 + 1 = omega arith in
-    y .right accepting (subst (λ (x : ℕ). Layers (frame a qs vs accepting) ms ls x work × Loaded (layer (frame a qs vs accepting) ms ls x) qs next) d r)
+    y .right accepting (subst (λ (x : ℕ). Layers (frame a qs vs accepting) ms ls x work × Needed (layer (frame a qs vs accepting) ms ls x) qs needs) d r)

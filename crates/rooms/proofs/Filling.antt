@@ -2,8 +2,8 @@
 use mathlib.Core.Path.{_≡_, refl, sym, ap, _∙_, subst}
 use mathlib.Core.Bool.{true, false, false≢true, or-true}
 use mathlib.Core.Logic.{_⊎_, ⊎-elim}
-use mathlib.Core.List.{List, _++_}
-use Prim.Native.Nat.{ℕ, suc, _+_, _*_, _-_, _≤_, _<_}
+use mathlib.Core.List.{List, [], _∷_, _++_}
+use Prim.Native.Nat.{ℕ, zero, suc, _+_, _*_, _-_, _≤_, _<_}
 use native.Mathlib.Omega.{arith}
 use native.Mathlib.Decide.{ℕ-discrete, decLt}
 use lib.Dec.{ltb}
@@ -12,10 +12,13 @@ use lib.Seq.{getD-set-same, getD-set-other, getD-take, getD-drop, getD-append-ad
 use borrow.Author.Tests.{lt-ltb, le-ltb}
 use borrow.Rule.Slice.PartMut.{putMid, midOf, postOf, mid-len, take-put, drop-put}
 use Rattle.meaning.specs.Bounds.{top}
-use Rattle.rooms.specs.Tables.{blanked, copied, Filled, Matches, Laid, Outside}
+use Rattle.rooms.specs.Tables.{blanked, copied, Filled, Low, Matches, LowBehind, Laid, Outside}
 
 pub filled-none : (f : ℕ → ℕ) (was : List ℕ) → Filled f 0 was was
 filled-none f was = record { done = λ k h. absurd (omega arith); left = λ k h. refl }
+
+pub filled-same : (n : ℕ) (was : List ℕ) → Filled (λ k. getD was k 0) n was was
+filled-same n was = record { done = λ k h. refl; left = λ k h. refl }
 
 pub filled-more : {f : ℕ → ℕ} {n : ℕ} {was is : List ℕ} (x : ℕ) → n < length is → Filled f n was is → x ≡ f n → Filled f (n + 1) was (set is n x)
 filled-more {f} {n} {was} {is} x h r e = record { done = λ k l. go k l (ℕ-discrete k n); left = λ k l. getD-set-other is n k x 0 (λ d. omega arith) ∙ r .left k (omega arith) }
@@ -26,6 +29,23 @@ filled-more {f} {n} {was} {is} x h r e = record { done = λ k l. go k l (ℕ-dis
 
 pub filled-end : {f : ℕ → ℕ} {i n : ℕ} {was is : List ℕ} → Filled f i was is → i ≤ n → n ≤ i → Filled f n was is
 filled-end {f} {i} {n} r h k = let e : i ≡ n = omega arith in rw e at r
+
+-- a row of a table laid number by number
+pub laid-none : (g : ℕ → ℕ) (i : ℕ) (was : List ℕ) → Laid g 0 i was was
+laid-none g i was = record { row = λ q h. absurd (omega arith); others = λ j q m d. refl }
+
+pub laid-more : {g : ℕ → ℕ} {n i : ℕ} {was is : List ℕ} (x : ℕ) → n < 64 → i * 64 + n < length is → Laid g n i was is → x ≡ g n → Laid g (n + 1) i was (set is (i * 64 + n) x)
+laid-more {g} {n} {i} {was} {is} x m h y e = record {
+  row = λ q l. go q l (ℕ-discrete q n);
+  others = λ j q l d. getD-set-other is (i * 64 + n) (j * 64 + q) x 0 (λ z. d (omega arith) (omega arith)) ∙ y .others j q l (λ a b. d a (omega arith));
+}
+  where
+    go : (q : ℕ) → q < n + 1 → Dec (q ≡ n) → getD (set is (i * 64 + n) x) (i * 64 + q) 0 ≡ g q
+    go q l (yes d) = rw d (getD-set-same is (i * 64 + n) x 0 h ∙ e)
+    go q l (no d) = getD-set-other is (i * 64 + n) (i * 64 + q) x 0 (λ z. d (omega arith)) ∙ y .row q (omega arith)
+
+pub laid-end : {g : ℕ → ℕ} {k n i : ℕ} {was is : List ℕ} → Laid g k i was is → k ≤ n → n ≤ k → Laid g n i was is
+laid-end {g} {k} {n} y h l = let e : k ≡ n = omega arith in rw e at y
 
 -- whether a row matches, number by number
 pub matches-none : (f : ℕ → ℕ) (row : List ℕ) → Matches f 0 row true
@@ -48,6 +68,17 @@ matches-not f n row = record { is = λ e. absurd (false≢true e) }
 pub most-top : {x : ℕ} → x ≤ 366001 → x ≤ suc top
 unfolding top
 most-top h = h
+
+-- numbers that are none above the top but by one fit, one added to the other
+pub low-fits : {x y : ℕ} → x ≤ suc top → y ≤ suc top → x + y < 4294967296
+unfolding top
+low-fits h k = omega arith
+
+-- what is said of where a list ends makes no difference within
+pub within : (xs : List ℕ) (k d e : ℕ) → k < length xs → getD xs k d ≡ getD xs k e
+within [] k d e h = absurd (omega arith)
+within (x ∷ xs) zero d e h = refl
+within (x ∷ xs) (suc k) d e h = within xs k d e (omega arith)
 
 -- what a filled row is: one content
 pub filled-one : (f : ℕ → ℕ) (n : ℕ) (was a b : List ℕ) → length a ≡ length b → Filled f n was a → Filled f n was b → a ≡ b
@@ -129,6 +160,10 @@ put-behind a e xs ys h k d i l =
     let j : e + (i - e) ≡ i = omega arith in
     subst (λ (z : ℕ). getD (putMid a (e - a) xs ys) z 0 ≡ getD xs z 0) j
     (sym (getD-drop e (putMid a (e - a) xs ys) (i - e) 0) ∙ (ap (λ (z : List ℕ). getD z (i - e) 0) (drop-put a e xs ys h k d) ∙ getD-drop e xs (i - e) 0))
+
+-- a row of the rows behind a layer
+pub low-part : {n i last : ℕ} {work : List ℕ} (j : ℕ) → n ≤ 64 → i < j → j ≤ last → LowBehind n i last work → Low n (take (j * 64 + 64 - j * 64) (drop (j * 64) work))
+low-part {work = work} j h k m l = record { low = λ q d. omega (arith, row-part work j (j * 64 + 64 - j * 64) q (omega arith), l .low j q k m d) }
 
 -- how long a row is that came back
 pub part-long : (at : ℕ) (xs ys : List ℕ) → at + 64 ≤ length xs → length ys ≡ length (midOf at (at + 64 - at) xs) → length ys ≡ 64

@@ -1,6 +1,7 @@
 pub mod Rooms
 pub mod Filling
 pub mod Raising
+pub mod Serving
 pub mod Sizing
 pub mod Turning
 pub mod Layering

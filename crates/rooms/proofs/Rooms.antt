@@ -4,7 +4,7 @@ use mathlib.Core.Bool.{Bool, true, false, cond, _&&_, false≢true}
 use mathlib.Core.Logic.{⊎-elim}
 use mathlib.Core.List.{List, [], _∷_}
 use mathlib.Core.List.{List·Memᴰ as In, List·Memᴰ·head as head, List·Memᴰ·tail as tail, List·Memᴰ·not-nil as not-nil, List·Memᴰ·cases-cons as cases}
-use Prim.Native.Nat.{ℕ, zero, suc, _+_, _-_, _≤_, _<_, min}
+use Prim.Native.Nat.{ℕ, zero, suc, _+_, _-_, _≤_, _<_}
 use native.Mathlib.Omega.{arith}
 use native.Mathlib.Decide.{decLt, ℕ-discrete}
 use lib.Dec.{ltb}
@@ -162,12 +162,11 @@ allowed-lower r q c d (p ∷ ps) (v ∷ w) h e =
       rest = allowed-lower r (target (r .arcs) q v) (c + cost (r .arcs) q v) (d + cost (r .arcs) q v) ps w (omega arith) (g .rest);
     })
 
--- the limit of the step into a layer
-pub cap-first : (ls : List ℕ) (i : ℕ) → i ≡ 0 → 366001 ≡ suc (min (before ls i) top)
-unfolding top
-cap-first ls i e = rw e
+-- what the limit of the step into a layer makes the least need
+pub least-first : (ls : List ℕ) (i : ℕ) → i ≡ 0 → 0 ≡ top - before ls i
+least-first ls i e = rw e (omega arith)
 
-pub cap-later : (ls : List ℕ) (i x : ℕ) → (i ≡ 0 → ⊥) → x ≡ min (getD ls (i - 1) 0) 366000 → x + 1 ≡ suc (min (before ls i) top)
+pub least-later : (ls : List ℕ) (i x : ℕ) → (i ≡ 0 → ⊥) → x ≡ 366000 - getD ls (i - 1) 0 → x ≡ top - before ls i
 unfolding top
-cap-later ls zero x h e = absurd (h refl)
-cap-later ls (suc i) x h e = let d : suc i - 1 ≡ i = omega arith in omega (arith, rw d at e)
+least-later ls zero x h e = absurd (h refl)
+least-later ls (suc i) x h e = let d : suc i - 1 ≡ i = omega arith in rw d at e

@@ -56,10 +56,10 @@ sizes-right qs vs t c ms ls work =
     go (yes a) (yes b) (yes d) (yes e) (yes f) (yes g) (yes h) (no k) = no (λ s. k (s .all-work))
 
 -- a backward pass that stays, and one that is made
-pub prepares-not : {qs vs accepting : ℕ} {t c ms ls to fee work : List ℕ} → (Sizes qs vs t c ms ls work → length to ≡ tableSize → length fee ≡ tableSize → ⊥)
-    → Prepares qs vs t c accepting ms ls to fee work to fee work false
-prepares-not h = record { right = λ e. absurd (false≢true e); wrong = λ e. (h, refl, refl, refl) }
+pub prepares-not : {qs vs accepting : ℕ} {t c ms ls to fee arcs work : List ℕ} → (Sizes qs vs t c ms ls work → length to ≡ tableSize → length fee ≡ tableSize → ⊥)
+    → Prepares qs vs t c accepting ms ls to fee arcs work to fee arcs work false
+prepares-not h = record { right = λ e. absurd (false≢true e); wrong = λ e. (h, refl, refl, refl, refl) }
 
-pub prepares-is : {qs vs accepting : ℕ} {t c ms ls to fee work to′ fee′ work′ : List ℕ} → Sizes qs vs t c ms ls work → length to ≡ tableSize → length fee ≡ tableSize
-    → Prepared qs vs t c accepting ms ls to fee work to′ fee′ work′ → Prepares qs vs t c accepting ms ls to fee work to′ fee′ work′ true
+pub prepares-is : {qs vs accepting : ℕ} {t c ms ls to fee arcs work to′ fee′ arcs′ work′ : List ℕ} → Sizes qs vs t c ms ls work → length to ≡ tableSize → length fee ≡ tableSize
+    → Prepared qs vs t c accepting ms ls to fee arcs work to′ fee′ arcs′ work′ → Prepares qs vs t c accepting ms ls to fee arcs work to′ fee′ arcs′ work′ true
 prepares-is s a b p = record { right = λ e. (s, a, b, p); wrong = λ e. absurd (false≢true (sym e)) }

@@ -11,7 +11,7 @@ use lib.Seq.{ext-getD}
 use Rattle.meaning.specs.Bounds.{mostStates}
 use Rattle.meaning.specs.Meaning.{rulesOf, places}
 use Rattle.rules.specs.Answers.{zeros}
-use Rattle.rooms.specs.Tables.{blanked, copied, turned, capped, before, layer, Outside, Prepared, Prepares}
+use Rattle.rooms.specs.Tables.{blanked, copied, turned, need, capped, before, layer, Outside, Prepared, Prepares}
 use Rattle.rooms.proofs.Rooms.{room-same}
 
 pub blank-unique : (count number : ℕ) (row a b : List ℕ) → a ≡ blanked count number row → b ≡ blanked count number row → a ≡ b
@@ -44,30 +44,30 @@ tables-one n rows was a b e r s t = ext-getD 0 a b e (λ k h. at k)
         let d : k / 64 * 64 + k % 64 ≡ k = omega arith in
         subst (λ (z : ℕ). getD a z 0 ≡ getD b z 0) d (go (k / 64) (k % 64) (omega arith) (decLt (k / 64) rows) (decLt (k % 64) n))
 
-module _ (qs vs : ℕ) (ts cs : List ℕ) (accepting : ℕ) (ms ls to fee work : List ℕ) where
-  prepared-one : (a b c a′ b′ c′ : List ℕ) → length a ≡ length a′ → length b ≡ length b′ → length c ≡ length c′
-      → Prepared qs vs ts cs accepting ms ls to fee work a b c → Prepared qs vs ts cs accepting ms ls to fee work a′ b′ c′ → (a ≡ a′) × (b ≡ b′) × (c ≡ c′)
+module _ (qs vs : ℕ) (ts cs : List ℕ) (accepting : ℕ) (ms ls to fee arcs work : List ℕ) where
+  prepared-one : (a b c d a′ b′ c′ d′ : List ℕ) → length a ≡ length a′ → length b ≡ length b′ → length c ≡ length c′
+      → Prepared qs vs ts cs accepting ms ls to fee arcs work a b d c → Prepared qs vs ts cs accepting ms ls to fee arcs work a′ b′ d′ c′ → (a ≡ a′) × (b ≡ b′) × (c ≡ c′)
   unfolding layer turned
-  prepared-one a b c a′ b′ c′ e f g r s = (
-    tables-one qs vs to a a′ e (λ v q h k. r .arcs .to q v k h ∙ sym (s .arcs .to q v k h)) (r .beside-targets) (s .beside-targets),
-    tables-one qs vs fee b b′ f (λ v q h k. r .arcs .fee q v k h ∙ sym (s .arcs .fee q v k h)) (r .beside-costs) (s .beside-costs),
-    tables-one qs (suc (length ms)) work c c′ g rooms (r .beside-rooms) (s .beside-rooms),
+  prepared-one a b c d a′ b′ c′ d′ e f g r s = (
+    tables-one qs vs to a a′ e (λ v q h k. r .turns .to q v k h ∙ sym (s .turns .to q v k h)) (r .beside-targets) (s .beside-targets),
+    tables-one qs vs fee b b′ f (λ v q h k. r .turns .fee q v k h ∙ sym (s .turns .fee q v k h)) (r .beside-costs) (s .beside-costs),
+    tables-one qs (suc (length ms)) work c c′ g needs (r .beside-rooms) (s .beside-rooms),
   )
     where
-      rooms : (j q : ℕ) → j < suc (length ms) → q < qs → getD c (j * 64 + q) 0 ≡ getD c′ (j * 64 + q) 0
-      rooms j q h k =
+      needs : (j q : ℕ) → j < suc (length ms) → q < qs → getD c (j * 64 + q) 0 ≡ getD c′ (j * 64 + q) 0
+      needs j q h k =
           r .rooms .right j q (omega arith) (omega arith) k
-          ∙ (ap (capped (before ls j)) (room-same (rulesOf qs vs ts cs accepting) (turned a b) (turned a′ b′) (r .arcs) (s .arcs) (drop j (places ms ls)) q)
+          ∙ (ap (λ (x : ℕ). need (capped (before ls j) x)) (room-same (rulesOf qs vs ts cs accepting) (turned a b) (turned a′ b′) (r .turns) (s .turns) (drop j (places ms ls)) q)
           ∙ sym (s .rooms .right j q (omega arith) (omega arith) k))
 
-  pub prepare-unique : (a b c a′ b′ c′ : List ℕ) (x y : Bool) → length a ≡ length a′ → length b ≡ length b′ → length c ≡ length c′
-      → Prepares qs vs ts cs accepting ms ls to fee work a b c x → Prepares qs vs ts cs accepting ms ls to fee work a′ b′ c′ y → (x ≡ y) × (a ≡ a′) × (b ≡ b′) × (c ≡ c′)
-  prepare-unique a b c a′ b′ c′ true true e f g r s =
-      let o = prepared-one a b c a′ b′ c′ e f g (r .right refl .3) (s .right refl .3) in
+  pub prepare-unique : (a b c d a′ b′ c′ d′ : List ℕ) (x y : Bool) → length a ≡ length a′ → length b ≡ length b′ → length c ≡ length c′
+      → Prepares qs vs ts cs accepting ms ls to fee arcs work a b d c x → Prepares qs vs ts cs accepting ms ls to fee arcs work a′ b′ d′ c′ y → (x ≡ y) × (a ≡ a′) × (b ≡ b′) × (c ≡ c′)
+  prepare-unique a b c d a′ b′ c′ d′ true true e f g r s =
+      let o = prepared-one a b c d a′ b′ c′ d′ e f g (r .right refl .3) (s .right refl .3) in
       (refl, o .0, o .1, o .2)
-  prepare-unique a b c a′ b′ c′ false false e f g r s =
+  prepare-unique a b c d a′ b′ c′ d′ false false e f g r s =
       let x = r .wrong refl in
       let y = s .wrong refl in
-      (refl, x .1 ∙ sym (y .1), x .2 ∙ sym (y .2), x .3 ∙ sym (y .3))
-  prepare-unique a b c a′ b′ c′ true false e f g r s = let h = r .right refl in absurd (s .wrong refl .0 (h .0) (h .1) (h .2))
-  prepare-unique a b c a′ b′ c′ false true e f g r s = let h = s .right refl in absurd (r .wrong refl .0 (h .0) (h .1) (h .2))
+      (refl, x .1 ∙ sym (y .1), x .2 ∙ sym (y .2), x .4 ∙ sym (y .4))
+  prepare-unique a b c d a′ b′ c′ d′ true false e f g r s = let h = r .right refl in absurd (s .wrong refl .0 (h .0) (h .1) (h .2))
+  prepare-unique a b c d a′ b′ c′ d′ false true e f g r s = let h = s .right refl in absurd (r .wrong refl .0 (h .0) (h .1) (h .2))

@@ -8,6 +8,7 @@ use lib.ListN.{length, getD, replicate, take, drop}
 use Rattle.kinds.specs.Bits.{bit}
 use Rattle.meaning.specs.Meaning.{Arcs, arcsOf, target, cost, Place, places}
 use Rattle.meaning.specs.Lists.{those}
+use Rattle.ranks.specs.Rows.{out, Ranked}
 use Rattle.meaning.specs.Bounds.{mostPlaces, mostStates, mostValues, tableSize, workSize, top}
 
 -- n - 1, .., 1, 0
@@ -65,26 +66,46 @@ unfoldable pub best : Net → (ℕ → ℕ) → ℕ → List ℕ → ℕ
 best a next q [] = 0
 best a next q (v ∷ vs) = max (leaves a next q v) (best a next q vs)
 
--- a row that is the best that some values leave
-pub record Best (a : Net) (next : ℕ → ℕ) (n : ℕ) (vs row : List ℕ) : Type 0 where
-  pub is : (q : ℕ) → q < n → getD row q 0 ≡ best a next q vs
+-- The rows hold needs. How far a room lies below the greatest: with no limit in the way, what the rest of a roster costs at the least
+abbrev pub need : ℕ → ℕ
+need room = suc top - room
+
+-- what a row of needs has for a target byte, which it is long enough to have; the greatest need where it ends
+abbrev pub needAt : List ℕ → ℕ → ℕ
+needAt needs t = getD needs t (suc top)
+
+-- the rooms that a row of needs stands for
+abbrev pub roomsBy : List ℕ → ℕ → ℕ
+roomsBy needs t = suc top - needAt needs t
+
+-- what a state needs by its arc on a value, where `needs` has the needs one place on
+abbrev pub asks : Net → List ℕ → ℕ → ℕ → ℕ
+asks a needs q v = needAt needs (a .to q v) + a .fee q v
+
+-- numbers of states, none above the top but by one
+pub record Low (n : ℕ) (row : List ℕ) : Type 0 where
+  pub low : (k : ℕ) → k < n → getD row k 0 ≤ suc top
+
+-- a row of the least that some values need; where it is the first, nothing is in it yet, and it is not read
+pub record Best (a : Net) (next : ℕ → ℕ) (n : ℕ) (first : Bool) (vs row : List ℕ) : Type 0 where
+  pub is : (q : ℕ) → q < n → cond first (suc top) (getD row q 0) ≡ need (best a next q vs)
 
 -- the same for all but the last values: those wait, three at most, the last one first
-pub data Held (a : Net) (next : ℕ → ℕ) (n h x y z : ℕ) (vs row : List ℕ) : Type 0 where
-  none : h ≡ 0 → Best a next n vs row → Held a next n h x y z vs row
-  one : (us : List ℕ) → h ≡ 1 → vs ≡ x ∷ us → Best a next n us row → Held a next n h x y z vs row
-  two : (us : List ℕ) → h ≡ 2 → vs ≡ x ∷ (y ∷ us) → Best a next n us row → Held a next n h x y z vs row
-  three : (us : List ℕ) → h ≡ 3 → vs ≡ x ∷ (y ∷ (z ∷ us)) → Best a next n us row → Held a next n h x y z vs row
+pub data Held (a : Net) (next : ℕ → ℕ) (n : ℕ) (first : Bool) (h x y z : ℕ) (vs row : List ℕ) : Type 0 where
+  none : h ≡ 0 → Best a next n first vs row → Held a next n first h x y z vs row
+  one : (us : List ℕ) → h ≡ 1 → vs ≡ x ∷ us → Best a next n first us row → Held a next n first h x y z vs row
+  two : (us : List ℕ) → h ≡ 2 → vs ≡ x ∷ (y ∷ us) → Best a next n first us row → Held a next n first h x y z vs row
+  three : (us : List ℕ) → h ≡ 3 → vs ≡ x ∷ (y ∷ (z ∷ us)) → Best a next n first us row → Held a next n first h x y z vs row
 
 -- value v more, whatever values were there before
-pub record RaisesOn (a : Net) (next : ℕ → ℕ) (n h x y z v h′ x′ y′ z′ : ℕ) (row row′ : List ℕ) : Type 0 where
+pub record LessensOn (a : Net) (next : ℕ → ℕ) (n : ℕ) (first : Bool) (h x y z v : ℕ) (first′ : Bool) (h′ x′ y′ z′ : ℕ) (row row′ : List ℕ) : Type 0 where
   pub few : (x′ < mostValues) × (y′ < mostValues) × (z′ < mostValues)
-  pub goes : (vs : List ℕ) → Held a next n h x y z vs row → Held a next n h′ x′ y′ z′ (v ∷ vs) row′
+  pub goes : (vs : List ℕ) → Held a next n first h x y z vs row → Held a next n first′ h′ x′ y′ z′ (v ∷ vs) row′
   pub left : (q : ℕ) → n ≤ q → getD row′ q 0 ≡ getD row q 0
 
 -- none waits any more
-pub record RaisesRest (a : Net) (next : ℕ → ℕ) (n h x y z : ℕ) (row row′ : List ℕ) : Type 0 where
-  pub goes : (vs : List ℕ) → Held a next n h x y z vs row → Best a next n vs row′
+pub record LessensRest (a : Net) (next : ℕ → ℕ) (n : ℕ) (first : Bool) (h x y z : ℕ) (row row′ : List ℕ) : Type 0 where
+  pub goes : (vs : List ℕ) → Held a next n first h x y z vs row → Best a next n false vs row′
   pub left : (q : ℕ) → n ≤ q → getD row′ q 0 ≡ getD row q 0
 
 -- a room as the step into it has it, with that step's limit
@@ -104,9 +125,13 @@ before ls (suc i) = getD ls i 0
 unfoldable pub layer : Frame → List ℕ → List ℕ → ℕ → ℕ → ℕ
 layer f ms ls i q = capped (before ls i) (room f (drop i (places ms ls)) q)
 
--- the rows of the work table, from layer i on
+-- the rows of the work table, from layer i on: the needs of the layers
 pub record Layers (f : Frame) (ms ls : List ℕ) (i : ℕ) (work : List ℕ) : Type 0 where
-  pub right : (j q : ℕ) → i ≤ j → j ≤ length ms → q < f .states → getD work (j * mostStates + q) 0 ≡ layer f ms ls j q
+  pub right : (j q : ℕ) → i ≤ j → j ≤ length ms → q < f .states → getD work (j * mostStates + q) 0 ≡ need (layer f ms ls j q)
+
+-- the rows behind layer i up to a last one, none above the top but by one
+pub record LowBehind (n i last : ℕ) (work : List ℕ) : Type 0 where
+  pub low : (j q : ℕ) → i < j → j ≤ last → q < n → getD work (j * mostStates + q) 0 ≤ suc top
 
 -- row i of a table laid up to n, all else as it was
 pub record Laid (g : ℕ → ℕ) (n i : ℕ) (was is : List ℕ) : Type 0 where
@@ -117,30 +142,42 @@ pub record Laid (g : ℕ → ℕ) (n i : ℕ) (was is : List ℕ) : Type 0 where
 pub record Outside (n rows : ℕ) (was is : List ℕ) : Type 0 where
   pub same : (j q : ℕ) → q < mostStates → (j < rows → q < n → ⊥) → getD is (j * mostStates + q) 0 ≡ getD was (j * mostStates + q) 0
 
--- a row by itself, with room for every target byte: no room at what is no state
-pub record Loaded (g : ℕ → ℕ) (n : ℕ) (next : List ℕ) : Type 0 where
-  pub done : (k : ℕ) → k < n → getD next k 0 ≡ g k
-  pub none : (k : ℕ) → n ≤ k → getD next k 0 ≡ 0
+-- a row of needs by itself, with a need for every target byte: one more than the top at what is no state
+pub record Needed (g : ℕ → ℕ) (n : ℕ) (needs : List ℕ) : Type 0 where
+  pub done : (k : ℕ) → k < n → needAt needs k ≡ need (g k)
+  pub none : (k : ℕ) → n ≤ k → needAt needs k ≡ suc top
+
+-- the same of what is no state alone
+pub record Bare (n : ℕ) (needs : List ℕ) : Type 0 where
+  pub none : (k : ℕ) → n ≤ k → needAt needs k ≡ suc top
+
+-- rows of arcs that serve for a net: those out of each state of a rule set that it has the arcs of
+pub record Serves (n : Net) (qs vs : ℕ) (arcs : List ℕ) : Type 0 where
+  pub of : Arcs
+  pub states : of .states ≡ qs
+  pub values : of .values ≡ vs
+  pub same : Same of vs n
+  pub ranked : Ranked (out of) qs [] arcs
 
 -- a row that was found to be f below n
 pub record Matches (f : ℕ → ℕ) (n : ℕ) (row : List ℕ) (found : Bool) : Type 0 where
   pub is : found ≡ true → (k : ℕ) → k < n → getD row k 0 ≡ f k
 
--- a layer's cap that is out of the way once the layer has fallen: there is no limit, or it has not fallen below the cap that comes now
-pub data Clear (cap other fall : ℕ) : Type 0 where
-  free : top < other → Clear cap other fall
-  high : cap ≤ other - fall → Clear cap other fall
+-- the least need that a layer was cut at, out of the way once the layer has risen: there is no limit, or it has not risen above the least that comes now
+pub data Clear (least other rise : ℕ) : Type 0 where
+  free : other ≡ 0 → Clear least other rise
+  high : other + rise ≤ least → Clear least other rise
 
--- a layer that is another one less a fall, if it is no greater than a fall can be: the same mask, the row behind it less the fall, and no cap in the way
-pub record LikeLayer (n fall : ℕ) (ms ls : List ℕ) (i like : ℕ) (next work : List ℕ) : Type 0 where
-  pub mask : fall ≤ suc top → getD ms i 0 ≡ getD ms like 0
-  pub clear : fall ≤ suc top → Clear (suc (min (before ls i) top)) (suc (min (before ls like) top)) fall
-  pub row : fall ≤ suc top → (q : ℕ) → q < n → getD next q 0 ≡ getD work ((like + 1) * mostStates + q) 0 - fall
+-- a layer that is another one with a rise, if it is no greater than a rise can be: the same mask, the row behind it with the rise, and no limit in the way
+pub record LikeLayer (n rise : ℕ) (ms ls : List ℕ) (i like : ℕ) (needs work : List ℕ) : Type 0 where
+  pub mask : rise ≤ suc top → getD ms i 0 ≡ getD ms like 0
+  pub clear : rise ≤ suc top → Clear (top - before ls i) (top - before ls like) rise
+  pub row : rise ≤ suc top → (q : ℕ) → q < n → getD needs q 0 ≡ min (suc top) (getD work ((like + 1) * mostStates + q) 0 + rise)
 
 -- layer i laid before the layers behind it, whatever states accept
-pub record Lays (a : Net) (qs vs : ℕ) (ms ls : List ℕ) (i : ℕ) (next work next′ work′ : List ℕ) : Type 0 where
-  pub right : (accepting : ℕ) → Layers (frame a qs vs accepting) ms ls (i + 1) work × Loaded (layer (frame a qs vs accepting) ms ls (i + 1)) qs next
-      → Layers (frame a qs vs accepting) ms ls i work′ × Loaded (layer (frame a qs vs accepting) ms ls i) qs next′
+pub record Lays (a : Net) (qs vs : ℕ) (ms ls : List ℕ) (i : ℕ) (needs work needs′ work′ : List ℕ) : Type 0 where
+  pub right : (accepting : ℕ) → Layers (frame a qs vs accepting) ms ls (i + 1) work × Needed (layer (frame a qs vs accepting) ms ls (i + 1)) qs needs
+      → Layers (frame a qs vs accepting) ms ls i work′ × Needed (layer (frame a qs vs accepting) ms ls i) qs needs′
   pub beside : Outside qs (suc (length ms)) work work′
 
 -- what the passes are lent, in its sizes
@@ -159,15 +196,17 @@ pub record Fits (qs vs : ℕ) (ts cs ms ls work : List ℕ) (found : Bool) : Typ
   pub right : found ≡ true → Sizes qs vs ts cs ms ls work
   pub wrong : found ≡ false → Sizes qs vs ts cs ms ls work → ⊥
 
--- what the whole backward pass leaves: the arcs of the rule set turned, and the rooms of all layers, all else as it was
-pub record Prepared (qs vs : ℕ) (ts cs : List ℕ) (accepting : ℕ) (ms ls to fee work to′ fee′ work′ : List ℕ) : Type 0 where
-  pub arcs : Same (arcsOf qs vs ts cs) vs (turned to′ fee′)
+-- what the whole backward pass leaves: the arcs of the rule set turned, their rows by rising cost, if there is a table for them, and the needs
+-- of all layers, all else as it was
+pub record Prepared (qs vs : ℕ) (ts cs : List ℕ) (accepting : ℕ) (ms ls to fee arcs work to′ fee′ arcs′ work′ : List ℕ) : Type 0 where
+  pub turns : Same (arcsOf qs vs ts cs) vs (turned to′ fee′)
+  pub ranks : length arcs ≡ tableSize → Ranked (out (arcsOf qs vs ts cs)) qs [] arcs′
   pub rooms : Layers (frame (turned to′ fee′) qs vs accepting) ms ls 0 work′
   pub beside-targets : Outside qs vs to to′
   pub beside-costs : Outside qs vs fee fee′
   pub beside-rooms : Outside qs (suc (length ms)) work work′
 
 -- the same for whatever is lent: nothing is written where a size is wrong
-pub record Prepares (qs vs : ℕ) (ts cs : List ℕ) (accepting : ℕ) (ms ls to fee work to′ fee′ work′ : List ℕ) (found : Bool) : Type 0 where
-  pub right : found ≡ true → Sizes qs vs ts cs ms ls work × (length to ≡ tableSize) × (length fee ≡ tableSize) × Prepared qs vs ts cs accepting ms ls to fee work to′ fee′ work′
-  pub wrong : found ≡ false → (Sizes qs vs ts cs ms ls work → length to ≡ tableSize → length fee ≡ tableSize → ⊥) × (to′ ≡ to) × (fee′ ≡ fee) × (work′ ≡ work)
+pub record Prepares (qs vs : ℕ) (ts cs : List ℕ) (accepting : ℕ) (ms ls to fee arcs work to′ fee′ arcs′ work′ : List ℕ) (found : Bool) : Type 0 where
+  pub right : found ≡ true → Sizes qs vs ts cs ms ls work × (length to ≡ tableSize) × (length fee ≡ tableSize) × Prepared qs vs ts cs accepting ms ls to fee arcs work to′ fee′ arcs′ work′
+  pub wrong : found ≡ false → (Sizes qs vs ts cs ms ls work → length to ≡ tableSize → length fee ≡ tableSize → ⊥) × (to′ ≡ to) × (fee′ ≡ fee) × (arcs′ ≡ arcs) × (work′ ≡ work)

@@ -1,17 +1,20 @@
-// The backward pass: the rooms of all layers, each behind the limit of the step into it.
+// The backward pass: the needs of all layers, each behind the limit of the step into it. The need of a state is how far its room lies below
+// the greatest; with no limit in the way it is what the rest of a roster costs at the least.
 ghost use mathlib.Core.Path.{_≡_};
 ghost use mathlib.Core.Bool.{true, cond};
 ghost use Prim.Native.Nat.{suc, _+_, _*_, _-_, _≤_, _<_, min, max};
 ghost use lib.ListN.{length, getD};
 ghost use Rattle.kinds.specs.Bits.{bit};
 ghost use Rattle.meaning.specs.Bounds.{mostPlaces, mostStates, mostValues, tableSize, top};
-ghost use Rattle.rooms.specs.Tables.{Filled, turned, choices, leaves, best, RaisesOn, RaisesRest, before, frame, Layers, Laid, Outside, Clear, LikeLayer, Lays, Sizes, Fits, Prepares};
+ghost use Rattle.rooms.specs.Tables.{Filled, turned, choices, best, need, asks, roomsBy, Low, LessensOn, LessensRest, before, frame, Layers, LowBehind, Laid, Outside, Clear, LikeLayer, Lays, Sizes, Fits, Prepares, Bare, Serves};
 use crate::rows;
 use crate::turn;
 use crate::turn::turned_at;
 use kinds::Mask;
 use kinds::State;
 use kinds::Value;
+use ranks::pull;
+use ranks::rank;
 use rules::bounds;
 use rules::bounds::TOP;
 use rules::numbers::lesser;
@@ -19,136 +22,139 @@ use rules::numbers::lesser;
 // As many numbers as a target byte can name.
 pub const BYTES: usize = 256;
 
-// The room after the last place.
-pub(crate) fn ending(accepting: u64, cap: u32, q: State) -> u32
+// The need after the last place.
+pub(crate) fn ending(accepting: u64, q: State) -> u32
     requires { ⌜ q .0 < mostStates ⌝ }
-    ensures { λ r. ⌜ r ≡ cond (bit accepting (q .0)) cap 0 ⌝ }
+    ensures { λ r. ⌜ r ≡ cond (bit accepting (q .0)) 0 (suc top) ⌝ }
 {
-    if (accepting >> q.0) & 1 == 1 { cap } else { 0 }
+    if (accepting >> q.0) & 1 == 1 {
+        0
+    } else {
+        TOP + 1
+    }
 }
 
 // The row of the last layer.
-pub(crate) fn ends(states: usize, accepting: u64, cap: u32, row: &mut [u32])
+pub(crate) fn ends(states: usize, accepting: u64, row: &mut [u32])
     requires { ⌜ (states ≤ mostStates) × (states ≤ length (now row)) ⌝ }
-    ensures { λ _. ⌜ Filled (λ q. cond (bit accepting q) cap 0) states (now (row .entry)) (now (row .exit)) ⌝ }
+    ensures { λ _. ⌜ Filled (λ q. cond (bit accepting q) 0 (suc top)) states (now (row .entry)) (now (row .exit)) ⌝ }
 {
     let mut q = State(0);
     while (q.0 as usize) < states {
-        row[q.0 as usize] = ending(accepting, cap, State(q.0));
+        row[q.0 as usize] = ending(accepting, State(q.0));
         q = State(q.0 + 1);
     }
 }
 
-// The room that the arc of a state on a value leaves.
-pub(crate) fn left_by(targets: &[u8], costs: &[u16], next: &[u32], q: State, v: Value) -> u32
-    requires { ⌜ (length (now targets) ≡ tableSize) × (length (now costs) ≡ tableSize) × (256 ≤ length (now next)) × (q .0 < mostStates) × (v .0 < mostValues) ⌝ }
-    ensures { λ r. ⌜ r ≡ leaves (turned (now (targets .entry)) (now (costs .entry))) (λ t. getD (now (next .entry)) t 0) (q .0) (v .0) ⌝ }
+// What a state needs by its arc on a value.
+pub(crate) fn need_by(targets: &[u8], costs: &[u16], needs: &[u32], q: State, v: Value) -> u32
+    requires { ⌜ (length (now targets) ≡ tableSize) × (length (now costs) ≡ tableSize) × (256 ≤ length (now needs)) × Low 256 (now needs) × (q .0 < mostStates) × (v .0 < mostValues) ⌝ }
+    ensures { λ r. ⌜ r ≡ asks (turned (now (targets .entry)) (now (costs .entry))) (now (needs .entry)) (q .0) (v .0) ⌝ }
 {
     let at = turned_at(q, v);
-    rows::less(next[targets[at] as usize], costs[at] as u32)
+    needs[targets[at] as usize] + (costs[at] as u32)
 }
 
-// The greatest of a room and what two values leave.
-pub(crate) fn best_of(
+// The lesser of what two values need.
+pub(crate) fn least_of(
     targets: &[u8],
     costs: &[u16],
-    next: &[u32],
+    needs: &[u32],
     q: State,
     v: Value,
     w: Value,
-    room: u32,
 ) -> u32
-    requires { ⌜ (length (now targets) ≡ tableSize) × (length (now costs) ≡ tableSize) × (256 ≤ length (now next)) × (q .0 < mostStates) × (v .0 < mostValues) × (w .0 < mostValues) ⌝ }
-    ensures { λ r. ⌜ r ≡ max (leaves (turned (now (targets .entry)) (now (costs .entry))) (λ t. getD (now (next .entry)) t 0) (q .0) (w .0)) (max (leaves (turned (now (targets .entry)) (now (costs .entry))) (λ t. getD (now (next .entry)) t 0) (q .0) (v .0)) room) ⌝ }
+    requires { ⌜ (length (now targets) ≡ tableSize) × (length (now costs) ≡ tableSize) × (256 ≤ length (now needs)) × Low 256 (now needs) × (q .0 < mostStates) × (v .0 < mostValues) × (w .0 < mostValues) ⌝ }
+    ensures { λ r. ⌜ r ≡ min (asks (turned (now (targets .entry)) (now (costs .entry))) (now (needs .entry)) (q .0) (w .0)) (asks (turned (now (targets .entry)) (now (costs .entry))) (now (needs .entry)) (q .0) (v .0)) ⌝ }
 {
-    let one = rows::greater(left_by(targets, costs, next, State(q.0), v), room);
-    rows::greater(left_by(targets, costs, next, q, w), one)
+    let one = need_by(targets, costs, needs, State(q.0), v);
+    lesser(need_by(targets, costs, needs, q, w), one)
 }
 
-// A row raised to what one value leaves.
-pub(crate) fn raise(
+// A need that is the first of its row, or beside the one there.
+pub(crate) fn beside(first: bool, need: u32, was: u32) -> u32
+    ensures { λ r. ⌜ r ≡ min need (cond first (suc top) was) ⌝ }
+{
+    if first {
+        lesser(need, TOP + 1)
+    } else {
+        lesser(need, was)
+    }
+}
+
+// A row lessened to what one value needs, or filled with it, where it is the first.
+pub(crate) fn lessen(
+    first: bool,
     states: usize,
     targets: &[u8],
     costs: &[u16],
     v: Value,
-    next: &[u32],
+    needs: &[u32],
     row: &mut [u32],
 )
-    requires { ⌜ (states ≤ mostStates) × (length (now targets) ≡ tableSize) × (length (now costs) ≡ tableSize) × (v .0 < mostValues) × (256 ≤ length (now next)) × (states ≤ length (now row)) ⌝ }
-    ensures { λ _. ⌜ Filled (λ q. max (leaves (turned (now (targets .entry)) (now (costs .entry))) (λ t. getD (now (next .entry)) t 0) q (v .0)) (getD (now (row .entry)) q 0)) states (now (row .entry)) (now (row .exit)) ⌝ }
+    requires { ⌜ (states ≤ mostStates) × (length (now targets) ≡ tableSize) × (length (now costs) ≡ tableSize) × (v .0 < mostValues) × (256 ≤ length (now needs)) × Low 256 (now needs) × (states ≤ length (now row)) ⌝ }
+    ensures { λ _. ⌜ Filled (λ q. min (asks (turned (now (targets .entry)) (now (costs .entry))) (now (needs .entry)) q (v .0)) (cond first (suc top) (getD (now (row .entry)) q 0))) states (now (row .entry)) (now (row .exit)) ⌝ }
 {
     let mut q = State(0);
     while (q.0 as usize) < states {
         let at = q.0 as usize;
-        let room = left_by(targets, costs, next, State(q.0), Value(v.0));
-        row[at] = rows::greater(room, row[at]);
+        let need = need_by(targets, costs, needs, State(q.0), Value(v.0));
+        row[at] = beside(first, need, row[at]);
         q = State(q.0 + 1);
     }
 }
 
-// A row raised to what two values leave: it is read and written once for both.
-pub(crate) fn raise_two(
+// A row lessened to what two values need, likewise: it is read and written once for both.
+pub(crate) fn lessen_two(
+    first: bool,
     states: usize,
     targets: &[u8],
     costs: &[u16],
     v: Value,
     w: Value,
-    next: &[u32],
+    needs: &[u32],
     row: &mut [u32],
 )
-    requires { ⌜ (states ≤ mostStates) × (length (now targets) ≡ tableSize) × (length (now costs) ≡ tableSize) × (v .0 < mostValues) × (w .0 < mostValues) × (256 ≤ length (now next)) × (states ≤ length (now row)) ⌝ }
-    ensures { λ _. ⌜ Filled (λ q. max (leaves (turned (now (targets .entry)) (now (costs .entry))) (λ t. getD (now (next .entry)) t 0) q (w .0)) (max (leaves (turned (now (targets .entry)) (now (costs .entry))) (λ t. getD (now (next .entry)) t 0) q (v .0)) (getD (now (row .entry)) q 0))) states (now (row .entry)) (now (row .exit)) ⌝ }
+    requires { ⌜ (states ≤ mostStates) × (length (now targets) ≡ tableSize) × (length (now costs) ≡ tableSize) × (v .0 < mostValues) × (w .0 < mostValues) × (256 ≤ length (now needs)) × Low 256 (now needs) × (states ≤ length (now row)) ⌝ }
+    ensures { λ _. ⌜ Filled (λ q. min (asks (turned (now (targets .entry)) (now (costs .entry))) (now (needs .entry)) q (w .0)) (min (asks (turned (now (targets .entry)) (now (costs .entry))) (now (needs .entry)) q (v .0)) (cond first (suc top) (getD (now (row .entry)) q 0)))) states (now (row .entry)) (now (row .exit)) ⌝ }
 {
     let mut q = State(0);
     while (q.0 as usize) < states {
         let at = q.0 as usize;
-        row[at] = best_of(
-            targets,
-            costs,
-            next,
-            State(q.0),
-            Value(v.0),
-            Value(w.0),
-            row[at],
-        );
+        let two = least_of(targets, costs, needs, State(q.0), Value(v.0), Value(w.0));
+        row[at] = beside(first, two, row[at]);
         q = State(q.0 + 1);
     }
 }
 
-// A row raised to what three values leave, likewise.
-pub(crate) fn raise_three(
+// A row lessened to what three values need, likewise.
+pub(crate) fn lessen_three(
+    first: bool,
     states: usize,
     targets: &[u8],
     costs: &[u16],
     v: Value,
     w: Value,
     x: Value,
-    next: &[u32],
+    needs: &[u32],
     row: &mut [u32],
 )
-    requires { ⌜ (states ≤ mostStates) × (length (now targets) ≡ tableSize) × (length (now costs) ≡ tableSize) × (v .0 < mostValues) × (w .0 < mostValues) × (x .0 < mostValues) × (256 ≤ length (now next)) × (states ≤ length (now row)) ⌝ }
-    ensures { λ _. ⌜ Filled (λ q. max (leaves (turned (now (targets .entry)) (now (costs .entry))) (λ t. getD (now (next .entry)) t 0) q (x .0)) (max (leaves (turned (now (targets .entry)) (now (costs .entry))) (λ t. getD (now (next .entry)) t 0) q (w .0)) (max (leaves (turned (now (targets .entry)) (now (costs .entry))) (λ t. getD (now (next .entry)) t 0) q (v .0)) (getD (now (row .entry)) q 0)))) states (now (row .entry)) (now (row .exit)) ⌝ }
+    requires { ⌜ (states ≤ mostStates) × (length (now targets) ≡ tableSize) × (length (now costs) ≡ tableSize) × (v .0 < mostValues) × (w .0 < mostValues) × (x .0 < mostValues) × (256 ≤ length (now needs)) × Low 256 (now needs) × (states ≤ length (now row)) ⌝ }
+    ensures { λ _. ⌜ Filled (λ q. min (asks (turned (now (targets .entry)) (now (costs .entry))) (now (needs .entry)) q (x .0)) (min (asks (turned (now (targets .entry)) (now (costs .entry))) (now (needs .entry)) q (w .0)) (min (asks (turned (now (targets .entry)) (now (costs .entry))) (now (needs .entry)) q (v .0)) (cond first (suc top) (getD (now (row .entry)) q 0))))) states (now (row .entry)) (now (row .exit)) ⌝ }
 {
     let mut q = State(0);
     while (q.0 as usize) < states {
         let at = q.0 as usize;
-        let two = best_of(
-            targets,
-            costs,
-            next,
-            State(q.0),
-            Value(v.0),
-            Value(w.0),
-            row[at],
-        );
-        let room = left_by(targets, costs, next, State(q.0), Value(x.0));
-        row[at] = rows::greater(room, two);
+        let two = least_of(targets, costs, needs, State(q.0), Value(v.0), Value(w.0));
+        let need = need_by(targets, costs, needs, State(q.0), Value(x.0));
+        row[at] = beside(first, lesser(need, two), row[at]);
         q = State(q.0 + 1);
     }
 }
 
-// A row raised to what four values leave, likewise.
-pub(crate) fn raise_four(
+// A row lessened to what four values need, likewise.
+pub(crate) fn lessen_four(
+    first: bool,
     states: usize,
     targets: &[u8],
     costs: &[u16],
@@ -156,68 +162,61 @@ pub(crate) fn raise_four(
     w: Value,
     x: Value,
     y: Value,
-    next: &[u32],
+    needs: &[u32],
     row: &mut [u32],
 )
-    requires { ⌜ (states ≤ mostStates) × (length (now targets) ≡ tableSize) × (length (now costs) ≡ tableSize) × (v .0 < mostValues) × (w .0 < mostValues) × (x .0 < mostValues) × (y .0 < mostValues) × (256 ≤ length (now next)) × (states ≤ length (now row)) ⌝ }
-    ensures { λ _. ⌜ Filled (λ q. max (leaves (turned (now (targets .entry)) (now (costs .entry))) (λ t. getD (now (next .entry)) t 0) q (y .0)) (max (leaves (turned (now (targets .entry)) (now (costs .entry))) (λ t. getD (now (next .entry)) t 0) q (x .0)) (max (leaves (turned (now (targets .entry)) (now (costs .entry))) (λ t. getD (now (next .entry)) t 0) q (w .0)) (max (leaves (turned (now (targets .entry)) (now (costs .entry))) (λ t. getD (now (next .entry)) t 0) q (v .0)) (getD (now (row .entry)) q 0))))) states (now (row .entry)) (now (row .exit)) ⌝ }
+    requires { ⌜ (states ≤ mostStates) × (length (now targets) ≡ tableSize) × (length (now costs) ≡ tableSize) × (v .0 < mostValues) × (w .0 < mostValues) × (x .0 < mostValues) × (y .0 < mostValues) × (256 ≤ length (now needs)) × Low 256 (now needs) × (states ≤ length (now row)) ⌝ }
+    ensures { λ _. ⌜ Filled (λ q. min (asks (turned (now (targets .entry)) (now (costs .entry))) (now (needs .entry)) q (y .0)) (min (asks (turned (now (targets .entry)) (now (costs .entry))) (now (needs .entry)) q (x .0)) (min (asks (turned (now (targets .entry)) (now (costs .entry))) (now (needs .entry)) q (w .0)) (min (asks (turned (now (targets .entry)) (now (costs .entry))) (now (needs .entry)) q (v .0)) (cond first (suc top) (getD (now (row .entry)) q 0)))))) states (now (row .entry)) (now (row .exit)) ⌝ }
 {
     let mut q = State(0);
     while (q.0 as usize) < states {
         let at = q.0 as usize;
-        let two = best_of(
-            targets,
-            costs,
-            next,
-            State(q.0),
-            Value(v.0),
-            Value(w.0),
-            row[at],
-        );
-        row[at] = best_of(
-            targets,
-            costs,
-            next,
-            State(q.0),
-            Value(x.0),
-            Value(y.0),
-            two,
-        );
+        let two = least_of(targets, costs, needs, State(q.0), Value(v.0), Value(w.0));
+        let others = least_of(targets, costs, needs, State(q.0), Value(x.0), Value(y.0));
+        row[at] = beside(first, lesser(two, others), row[at]);
         q = State(q.0 + 1);
     }
 }
 
-// Values of a mask that wait, three at most, until the row is raised to what they leave together: how many, and which, the last one first.
+// Values of a mask that wait, three at most, until the row is lessened to what they need together: whether nothing is in the row yet, how
+// many wait, and which, the last one first.
 pub(crate) struct Waiting {
+    pub(crate) first: bool,
     pub(crate) held: u8,
     pub(crate) x: Value,
     pub(crate) y: Value,
     pub(crate) z: Value,
 }
 
-// One value more: it waits beside the others, or makes a fourth with them, and the row is raised to what the four leave.
-pub(crate) fn raise_on(
+// One value more: it waits beside the others, or makes a fourth with them, and the row is lessened to what the four need.
+pub(crate) fn lessen_on(
     states: usize,
     targets: &[u8],
     costs: &[u16],
-    wait: Waiting,
+    w: Waiting,
     v: Value,
-    next: &[u32],
+    needs: &[u32],
     row: &mut [u32],
 ) -> Waiting
-    requires { ⌜ (states ≤ mostStates) × (length (now targets) ≡ tableSize) × (length (now costs) ≡ tableSize) × (wait .x .0 < mostValues) × (wait .y .0 < mostValues) × (wait .z .0 < mostValues) × (v .0 < mostValues) × (256 ≤ length (now next)) × (states ≤ length (now row)) ⌝ }
-    ensures { λ r. ⌜ RaisesOn (turned (now (targets .entry)) (now (costs .entry))) (λ t. getD (now (next .entry)) t 0) states (wait .held) (wait .x .0) (wait .y .0) (wait .z .0) (v .0) (r .held) (r .x .0) (r .y .0) (r .z .0) (now (row .entry)) (now (row .exit)) ⌝ }
+    requires { ⌜ (states ≤ mostStates) × (length (now targets) ≡ tableSize) × (length (now costs) ≡ tableSize) × (w .x .0 < mostValues) × (w .y .0 < mostValues) × (w .z .0 < mostValues) × (v .0 < mostValues) × (256 ≤ length (now needs)) × Low 256 (now needs) × (states ≤ length (now row)) ⌝ }
+    ensures { λ r. ⌜ LessensOn (turned (now (targets .entry)) (now (costs .entry))) (roomsBy (now (needs .entry))) states (w .first) (w .held) (w .x .0) (w .y .0) (w .z .0) (v .0) (r .first) (r .held) (r .x .0) (r .y .0) (r .z .0) (now (row .entry)) (now (row .exit)) ⌝ }
 {
-    if wait.held < 3 {
+    if w.held < 3 {
         return Waiting {
-            held: wait.held + 1,
+            first: w.first,
+            held: w.held + 1,
             x: v,
-            y: Value(wait.x.0),
-            z: Value(wait.y.0),
+            y: Value(w.x.0),
+            z: Value(w.y.0),
         };
     }
-    raise_four(states, targets, costs, wait.z, wait.y, wait.x, v, next, row);
+    if w.first {
+        lessen_four(true, states, targets, costs, w.z, w.y, w.x, v, needs, row);
+    } else {
+        lessen_four(false, states, targets, costs, w.z, w.y, w.x, v, needs, row);
+    }
     Waiting {
+        first: false,
         held: 0,
         x: Value(0),
         y: Value(0),
@@ -225,47 +224,62 @@ pub(crate) fn raise_on(
     }
 }
 
-// The row raised to what the values leave that still wait.
-pub(crate) fn raise_rest(
+// The row lessened to what the values need that still wait.
+pub(crate) fn lessen_rest(
     states: usize,
     targets: &[u8],
     costs: &[u16],
-    wait: Waiting,
-    next: &[u32],
+    w: Waiting,
+    needs: &[u32],
     row: &mut [u32],
 )
-    requires { ⌜ (states ≤ mostStates) × (length (now targets) ≡ tableSize) × (length (now costs) ≡ tableSize) × (wait .x .0 < mostValues) × (wait .y .0 < mostValues) × (wait .z .0 < mostValues) × (256 ≤ length (now next)) × (states ≤ length (now row)) ⌝ }
-    ensures { λ _. ⌜ RaisesRest (turned (now (targets .entry)) (now (costs .entry))) (λ t. getD (now (next .entry)) t 0) states (wait .held) (wait .x .0) (wait .y .0) (wait .z .0) (now (row .entry)) (now (row .exit)) ⌝ }
+    requires { ⌜ (states ≤ mostStates) × (length (now targets) ≡ tableSize) × (length (now costs) ≡ tableSize) × (w .x .0 < mostValues) × (w .y .0 < mostValues) × (w .z .0 < mostValues) × (256 ≤ length (now needs)) × Low 256 (now needs) × (states ≤ length (now row)) ⌝ }
+    ensures { λ _. ⌜ LessensRest (turned (now (targets .entry)) (now (costs .entry))) (roomsBy (now (needs .entry))) states (w .first) (w .held) (w .x .0) (w .y .0) (w .z .0) (now (row .entry)) (now (row .exit)) ⌝ }
 {
-    if wait.held == 0 {
+    if w.held == 0 {
+        if w.first {
+            rows::blank(states, TOP + 1, row);
+        }
         return;
     }
-    if wait.held == 1 {
-        raise(states, targets, costs, wait.x, next, row);
+    if w.held == 1 {
+        if w.first {
+            lessen(true, states, targets, costs, w.x, needs, row);
+        } else {
+            lessen(false, states, targets, costs, w.x, needs, row);
+        }
         return;
     }
-    if wait.held == 2 {
-        raise_two(states, targets, costs, wait.y, wait.x, next, row);
+    if w.held == 2 {
+        if w.first {
+            lessen_two(true, states, targets, costs, w.y, w.x, needs, row);
+        } else {
+            lessen_two(false, states, targets, costs, w.y, w.x, needs, row);
+        }
         return;
     }
-    raise_three(states, targets, costs, wait.z, wait.y, wait.x, next, row);
+    if w.first {
+        lessen_three(true, states, targets, costs, w.z, w.y, w.x, needs, row);
+    } else {
+        lessen_three(false, states, targets, costs, w.z, w.y, w.x, needs, row);
+    }
 }
 
-// The row of a layer, from the row of the next: the best that the mask's values leave.
+// The row of a layer, from the needs of the next: the least that the mask's values need.
 pub(crate) fn fill_row(
     states: usize,
     values: usize,
     targets: &[u8],
     costs: &[u16],
     mask: Mask,
-    next: &[u32],
+    needs: &[u32],
     row: &mut [u32],
 )
-    requires { ⌜ (states ≤ mostStates) × (values ≤ mostValues) × (length (now targets) ≡ tableSize) × (length (now costs) ≡ tableSize) × (256 ≤ length (now next)) × (states ≤ length (now row)) ⌝ }
-    ensures { λ _. ⌜ Filled (λ q. best (turned (now (targets .entry)) (now (costs .entry))) (λ t. getD (now (next .entry)) t 0) q (choices values (mask .0))) states (now (row .entry)) (now (row .exit)) ⌝ }
+    requires { ⌜ (states ≤ mostStates) × (values ≤ mostValues) × (length (now targets) ≡ tableSize) × (length (now costs) ≡ tableSize) × (256 ≤ length (now needs)) × Low 256 (now needs) × (states ≤ length (now row)) ⌝ }
+    ensures { λ _. ⌜ Filled (λ q. need (best (turned (now (targets .entry)) (now (costs .entry))) (roomsBy (now (needs .entry))) q (choices values (mask .0)))) states (now (row .entry)) (now (row .exit)) ⌝ }
 {
-    rows::blank(states, 0, row);
     let mut wait = Waiting {
+        first: true,
         held: 0,
         x: Value(0),
         y: Value(0),
@@ -274,103 +288,129 @@ pub(crate) fn fill_row(
     let mut v = Value(0);
     while (v.0 as usize) < values {
         if mask.has(Value(v.0)) {
-            wait = raise_on(states, targets, costs, wait, Value(v.0), next, row);
+            wait = lessen_on(states, targets, costs, wait, Value(v.0), needs, row);
         }
         v = Value(v.0 + 1);
     }
-    raise_rest(states, targets, costs, wait, next, row);
+    lessen_rest(states, targets, costs, wait, needs, row);
 }
 
-// One more than the limit of the step into layer i, 366,000 at most.
-pub(crate) fn cap_at(limits: &[u32], i: usize) -> u32
+// What every state of layer i needs at the least, by the limit of the step into it.
+pub(crate) fn least_at(limits: &[u32], i: usize) -> u32
     requires { ⌜ i ≤ length (now limits) ⌝ }
-    ensures { λ r. ⌜ r ≡ suc (min (before (now (limits .entry)) i) top) ⌝ }
+    ensures { λ r. ⌜ r ≡ top - before (now (limits .entry)) i ⌝ }
 {
     if i == 0 {
-        return TOP + 1;
+        return 0;
     }
-    lesser(limits[i - 1], TOP) + 1
+    rows::less(TOP, limits[i - 1])
 }
 
-// The row of layer i, laid as that of the layer `like` less a fall, behind the limit of the step into it, and loaded by itself.
+// The row of layer i, laid as that of the layer `like` with a rise, behind the limit of the step into it, and loaded by itself.
 pub(crate) fn lay_like(
     states: usize,
     like: usize,
-    fall: u32,
-    cap: u32,
+    rise: u32,
+    least: u32,
     i: usize,
-    next: &mut [u32],
+    needs: &mut [u32],
     work: &mut [u32],
 )
-    requires { ⌜ (states ≤ mostStates) × (length (now next) ≡ 256) × (i ≤ mostPlaces) × (like ≤ mostPlaces) × (i * mostStates + mostStates ≤ length (now work)) × (like * mostStates + mostStates ≤ length (now work)) ⌝ }
-    ensures { λ _. ⌜ Laid (λ q. min cap (getD (now (work .entry)) (like * mostStates + q) 0 - fall)) states i (now (work .entry)) (now (work .exit)) × Filled (λ q. min cap (getD (now (work .entry)) (like * mostStates + q) 0 - fall)) states (now (next .entry)) (now (next .exit)) ⌝ }
+    requires { ⌜ (states ≤ mostStates) × (length (now needs) ≡ 256) × (i < like) × (like ≤ mostPlaces) × (like * mostStates + mostStates ≤ length (now work)) × (rise ≤ suc top) × LowBehind states i like (now work) ⌝ }
+    ensures { λ _. ⌜ Laid (λ q. max least (min (suc top) (getD (now (work .entry)) (like * mostStates + q) 0 + rise))) states i (now (work .entry)) (now (work .exit)) × Filled (λ q. max least (min (suc top) (getD (now (work .entry)) (like * mostStates + q) 0 + rise))) states (now (needs .entry)) (now (needs .exit)) ⌝ }
 {
     let from = like * bounds::MOST_STATES;
-    let until = from + bounds::MOST_STATES;
-    rows::lower(states, fall, cap, &work[from..until], next);
     let at = i * bounds::MOST_STATES;
-    let end = at + bounds::MOST_STATES;
-    rows::copy(states, next, &mut work[at..end]);
+    let mut q: usize = 0;
+    while q < states {
+        let need = rows::greater(least, lesser(TOP + 1, work[from + q] + rise));
+        work[at + q] = need;
+        needs[q] = need;
+        q += 1;
+    }
 }
 
-// The row of layer i, likewise: from the row of the next.
+// The row of a layer, from the needs of the next: by the rows of arcs where they serve, else value by value.
+pub(crate) fn make_row(
+    states: usize,
+    values: usize,
+    targets: &[u8],
+    costs: &[u16],
+    arcs: &[u32],
+    mask: Mask,
+    needs: &[u32],
+    row: &mut [u32],
+)
+    requires { ⌜ (states ≤ mostStates) × (values ≤ mostValues) × (length (now targets) ≡ tableSize) × (length (now costs) ≡ tableSize) × (length (now needs) ≡ 256) × Low 256 (now needs) × Bare states (now needs) × (states ≤ length (now row)) × (length (now arcs) ≡ tableSize → Serves (turned (now targets) (now costs)) states values (now arcs)) ⌝ }
+    ensures { λ _. ⌜ Filled (λ q. need (best (turned (now (targets .entry)) (now (costs .entry))) (roomsBy (now (needs .entry))) q (choices values (mask .0)))) states (now (row .entry)) (now (row .exit)) ⌝ }
+{
+    if pull::serves(values, Mask(mask.0), arcs) {
+        pull::pull(states, needs, arcs, row);
+        return;
+    }
+    fill_row(states, values, targets, costs, mask, needs, row);
+}
+
+// The row of layer i, likewise: from the needs of the next.
 pub(crate) fn fill_layer(
     states: usize,
     values: usize,
     targets: &[u8],
     costs: &[u16],
+    arcs: &[u32],
     mask: Mask,
-    cap: u32,
+    least: u32,
     i: usize,
-    next: &mut [u32],
+    needs: &mut [u32],
     work: &mut [u32],
 )
-    requires { ⌜ (states ≤ mostStates) × (values ≤ mostValues) × (length (now targets) ≡ tableSize) × (length (now costs) ≡ tableSize) × (length (now next) ≡ 256) × (i ≤ mostPlaces) × (i * mostStates + mostStates ≤ length (now work)) ⌝ }
-    ensures { λ _. ⌜ Laid (λ q. min cap (best (turned (now (targets .entry)) (now (costs .entry))) (λ t. getD (now (next .entry)) t 0) q (choices values (mask .0)))) states i (now (work .entry)) (now (work .exit)) × Filled (λ q. min cap (best (turned (now (targets .entry)) (now (costs .entry))) (λ t. getD (now (next .entry)) t 0) q (choices values (mask .0)))) states (now (next .entry)) (now (next .exit)) ⌝ }
+    requires { ⌜ (states ≤ mostStates) × (values ≤ mostValues) × (length (now targets) ≡ tableSize) × (length (now costs) ≡ tableSize) × (length (now needs) ≡ 256) × Low 256 (now needs) × Bare states (now needs) × (i ≤ mostPlaces) × (i * mostStates + mostStates ≤ length (now work)) × (length (now arcs) ≡ tableSize → Serves (turned (now targets) (now costs)) states values (now arcs)) ⌝ }
+    ensures { λ _. ⌜ Laid (λ q. max (need (best (turned (now (targets .entry)) (now (costs .entry))) (roomsBy (now (needs .entry))) q (choices values (mask .0)))) least) states i (now (work .entry)) (now (work .exit)) × Filled (λ q. max (need (best (turned (now (targets .entry)) (now (costs .entry))) (roomsBy (now (needs .entry))) q (choices values (mask .0)))) least) states (now (needs .entry)) (now (needs .exit)) ⌝ }
 {
     let at = i * bounds::MOST_STATES;
     let end = at + bounds::MOST_STATES;
-    fill_row(
+    make_row(
         states,
         values,
         targets,
         costs,
+        arcs,
         mask,
-        next,
+        needs,
         &mut work[at..end],
     );
-    lay_like(states, i, 0, cap, i, next, work);
+    rows::settle(states, least, &mut work[at..end], needs);
 }
 
 // The row of the last layer, likewise.
 pub(crate) fn fill_last(
     states: usize,
     accepting: u64,
-    cap: u32,
+    least: u32,
     i: usize,
-    next: &mut [u32],
+    needs: &mut [u32],
     work: &mut [u32],
 )
-    requires { ⌜ (states ≤ mostStates) × (length (now next) ≡ 256) × (i ≤ mostPlaces) × (i * mostStates + mostStates ≤ length (now work)) ⌝ }
-    ensures { λ _. ⌜ Laid (λ q. cond (bit accepting q) cap 0) states i (now (work .entry)) (now (work .exit)) × Filled (λ q. cond (bit accepting q) cap 0) states (now (next .entry)) (now (next .exit)) ⌝ }
+    requires { ⌜ (states ≤ mostStates) × (length (now needs) ≡ 256) × (i ≤ mostPlaces) × (i * mostStates + mostStates ≤ length (now work)) ⌝ }
+    ensures { λ _. ⌜ Laid (λ q. max (cond (bit accepting q) 0 (suc top)) least) states i (now (work .entry)) (now (work .exit)) × Filled (λ q. max (cond (bit accepting q) 0 (suc top)) least) states (now (needs .entry)) (now (needs .exit)) ⌝ }
 {
     let at = i * bounds::MOST_STATES;
     let end = at + bounds::MOST_STATES;
-    ends(states, accepting, cap, &mut work[at..end]);
-    rows::copy(states, &work[at..end], next);
+    ends(states, accepting, &mut work[at..end]);
+    rows::settle(states, least, &mut work[at..end], needs);
 }
 
 // How far apart two layers may lie of which one is laid as the other was.
 pub const MOST_SPAN: usize = 8;
 
 // A state that has room, where there is one.
-pub(crate) fn roomy(states: usize, next: &[u32]) -> State
-    requires { ⌜ (states ≤ mostStates) × (states ≤ length (now next)) ⌝ }
+pub(crate) fn roomy(states: usize, needs: &[u32]) -> State
+    requires { ⌜ (states ≤ mostStates) × (states ≤ length (now needs)) ⌝ }
     ensures { λ r. ⌜ r .0 < mostStates ⌝ }
 {
     let mut q = State(0);
     while (q.0 as usize) + 1 < states {
-        if next[q.0 as usize] != 0 {
+        if needs[q.0 as usize] <= TOP {
             return q;
         }
         q = State(q.0 + 1);
@@ -378,55 +418,54 @@ pub(crate) fn roomy(states: usize, next: &[u32]) -> State
     q
 }
 
-// How much room a state with room has lost, from the row behind an earlier laid layer on.
-pub(crate) fn fall_from(states: usize, like: usize, next: &[u32], work: &[u32]) -> u32
-    requires { ⌜ (states ≤ mostStates) × (length (now next) ≡ 256) × (like < mostPlaces) × ((like + 1) * mostStates + mostStates ≤ length (now work)) ⌝ }
+// How much more a state with room needs than in the row behind an earlier laid layer.
+pub(crate) fn rise_from(states: usize, like: usize, needs: &[u32], work: &[u32]) -> u32
+    requires { ⌜ (states ≤ mostStates) × (length (now needs) ≡ 256) × Low 256 (now needs) × (like < mostPlaces) × ((like + 1) * mostStates + mostStates ≤ length (now work)) ⌝ }
+    ensures { λ r. ⌜ r ≤ suc top ⌝ }
 {
-    let q = roomy(states, next).0 as usize;
+    let q = roomy(states, needs).0 as usize;
     let at = (like + 1) * bounds::MOST_STATES + q;
-    rows::less(work[at], next[q])
+    rows::less(needs[q], work[at])
 }
 
-// Whether the cap that another layer was cut at is out of the way, once that layer has fallen: it has no limit, or its cap has not
-// fallen below the cap that comes now.
-pub(crate) fn clear_of(cap: u32, other: u32, fall: u32) -> bool
-    ensures { λ r. ⌜ (r ≡ true → Clear cap other fall) ⌝ }
+// Whether the least need that another layer was cut at is out of the way, once that layer has risen: it has no limit, or that need has not
+// risen above the one that comes now.
+pub(crate) fn clear_of(least: u32, other: u32, rise: u32) -> bool
+    requires { ⌜ (other ≤ suc top) × (rise ≤ suc top) ⌝ }
+    ensures { λ r. ⌜ (r ≡ true → Clear least other rise) ⌝ }
 {
-    if TOP < other {
+    if other == 0 {
         return true;
     }
-    if cap <= rows::less(other, fall) {
-        return true;
-    }
-    false
+    other + rise <= least
 }
 
-// How far layer i lies below the layer `like`, if it is that layer less a fall: one mask leads from both, what lies behind them differs
-// by the fall alone, and the cap of `like` is out of the way. Else more than any fall.
-pub(crate) fn fall_to(
+// How far the needs of layer i lie above those of the layer `like`, if they are those with a rise: one mask leads from both, what lies behind
+// them differs by the rise alone, and the limit of `like` is out of the way. Else more than any rise.
+pub(crate) fn rise_to(
     states: usize,
     masks: &[u16],
     limits: &[u32],
-    cap: u32,
+    least: u32,
     i: usize,
     like: usize,
-    next: &[u32],
+    needs: &[u32],
     work: &[u32],
 ) -> u32
-    requires { ⌜ (states ≤ mostStates) × (cap ≡ suc (min (before (now limits) i) top)) × (i < length (now masks)) × (like < length (now masks)) × (length (now masks) ≤ mostPlaces) × (length (now limits) ≡ length (now masks)) × (length (now next) ≡ 256) × ((like + 1) * mostStates + mostStates ≤ length (now work)) ⌝ }
-    ensures { λ r. ⌜ LikeLayer states r (now (masks .entry)) (now (limits .entry)) i like (now (next .entry)) (now (work .entry)) ⌝ }
+    requires { ⌜ (states ≤ mostStates) × (least ≡ top - before (now limits) i) × (i < like) × (like < length (now masks)) × (length (now masks) ≤ mostPlaces) × (length (now limits) ≡ length (now masks)) × (length (now needs) ≡ 256) × Low 256 (now needs) × ((like + 1) * mostStates + mostStates ≤ length (now work)) × LowBehind states i (length (now masks)) (now work) ⌝ }
+    ensures { λ r. ⌜ LikeLayer states r (now (masks .entry)) (now (limits .entry)) i like (now (needs .entry)) (now (work .entry)) ⌝ }
 {
     if masks[i] != masks[like] {
         return TOP + 2;
     }
-    let fall = fall_from(states, like, next, work);
-    if !clear_of(cap, cap_at(limits, like), fall) {
+    let rise = rise_from(states, like, needs, work);
+    if !clear_of(least, least_at(limits, like), rise) {
         return TOP + 2;
     }
     let at = (like + 1) * bounds::MOST_STATES;
     let end = at + bounds::MOST_STATES;
-    if rows::fallen(states, fall, &work[at..end], next) {
-        return fall;
+    if rows::risen(states, rise, &work[at..end], needs) {
+        return rise;
     }
     TOP + 2
 }
@@ -438,22 +477,23 @@ pub(crate) fn lay(
     values: usize,
     targets: &[u8],
     costs: &[u16],
+    arcs: &[u32],
     masks: &[u16],
     limits: &[u32],
     i: usize,
     span: usize,
-    next: &mut [u32],
+    needs: &mut [u32],
     work: &mut [u32],
 ) -> usize
-    requires { ⌜ Sizes states values (now targets) (now costs) (now masks) (now limits) (now work) × (i < length (now masks)) × (1 ≤ span) × (span ≤ 8) × (length (now next) ≡ 256) ⌝ }
-    ensures { λ r. ⌜ (1 ≤ r) × (r ≤ 8) × Lays (turned (now (targets .entry)) (now (costs .entry))) states values (now (masks .entry)) (now (limits .entry)) i (now (next .entry)) (now (work .entry)) (now (next .exit)) (now (work .exit)) ⌝ }
+    requires { ⌜ Sizes states values (now targets) (now costs) (now masks) (now limits) (now work) × (i < length (now masks)) × (1 ≤ span) × (span ≤ 8) × (length (now needs) ≡ 256) × Low 256 (now needs) × LowBehind states i (length (now masks)) (now work) × Bare states (now needs) × (length (now arcs) ≡ tableSize → Serves (turned (now targets) (now costs)) states values (now arcs)) ⌝ }
+    ensures { λ r. ⌜ (1 ≤ r) × (r ≤ 8) × Lays (turned (now (targets .entry)) (now (costs .entry))) states values (now (masks .entry)) (now (limits .entry)) i (now (needs .entry)) (now (work .entry)) (now (needs .exit)) (now (work .exit)) ⌝ }
 {
-    let cap = cap_at(limits, i);
+    let least = least_at(limits, i);
     let like = i + span;
     if like < masks.len() {
-        let fall = fall_to(states, masks, limits, cap, i, like, next, work);
-        if fall <= TOP + 1 {
-            lay_like(states, like, fall, cap, i, next, work);
+        let rise = rise_to(states, masks, limits, least, i, like, needs, work);
+        if rise <= TOP + 1 {
+            lay_like(states, like, rise, least, i, needs, work);
             return span;
         }
     }
@@ -462,32 +502,34 @@ pub(crate) fn lay(
         values,
         targets,
         costs,
+        arcs,
         Mask(masks[i]),
-        cap,
+        least,
         i,
-        next,
+        needs,
         work,
     );
     span % MOST_SPAN + 1
 }
 
 // The rows of all layers, the last first.
-pub(crate) fn fill_rooms(
+pub(crate) fn fill_needs(
     states: usize,
     values: usize,
     targets: &[u8],
     costs: &[u16],
+    arcs: &[u32],
     accepting: u64,
     masks: &[u16],
     limits: &[u32],
     work: &mut [u32],
 )
-    requires { ⌜ Sizes states values (now targets) (now costs) (now masks) (now limits) (now work) ⌝ }
+    requires { ⌜ Sizes states values (now targets) (now costs) (now masks) (now limits) (now work) × (length (now arcs) ≡ tableSize → Serves (turned (now targets) (now costs)) states values (now arcs)) ⌝ }
     ensures { λ _. ⌜ Layers (frame (turned (now (targets .entry)) (now (costs .entry))) states values accepting) (now (masks .entry)) (now (limits .entry)) 0 (now (work .exit)) × Outside states (suc (length (now (masks .entry)))) (now (work .entry)) (now (work .exit)) ⌝ }
 {
-    let mut next = [0u32; BYTES];
+    let mut needs = [TOP + 1; BYTES];
     let mut i = masks.len();
-    fill_last(states, accepting, cap_at(limits, i), i, &mut next, work);
+    fill_last(states, accepting, least_at(limits, i), i, &mut needs, work);
     let mut span: usize = 1;
     while 0 < i {
         i -= 1;
@@ -496,11 +538,12 @@ pub(crate) fn fill_rooms(
             values,
             targets,
             costs,
+            arcs,
             masks,
             limits,
             i,
             span,
-            &mut next,
+            &mut needs,
             work,
         );
     }
@@ -545,7 +588,7 @@ pub(crate) fn fits(
     true
 }
 
-// The whole backward pass: the tables turned, and the rooms of all layers. Where something lent has not its size, all stays; says which.
+// The whole backward pass: the tables turned, the arcs in rows by rising cost, if there is a table for them, and the needs of all layers. Where something lent has not its size, all stays; says which.
 pub fn prepare(
     states: usize,
     values: usize,
@@ -556,9 +599,10 @@ pub fn prepare(
     limits: &[u32],
     to: &mut [u8],
     fee: &mut [u16],
+    arcs: &mut [u32],
     work: &mut [u32],
 ) -> bool
-    ensures { λ r. ⌜ Prepares states values (now (targets .entry)) (now (costs .entry)) accepting (now (masks .entry)) (now (limits .entry)) (now (to .entry)) (now (fee .entry)) (now (work .entry)) (now (to .exit)) (now (fee .exit)) (now (work .exit)) r ⌝ }
+    ensures { λ r. ⌜ Prepares states values (now (targets .entry)) (now (costs .entry)) accepting (now (masks .entry)) (now (limits .entry)) (now (to .entry)) (now (fee .entry)) (now (arcs .entry)) (now (work .entry)) (now (to .exit)) (now (fee .exit)) (now (arcs .exit)) (now (work .exit)) r ⌝ }
 {
     if !fits(states, values, targets, costs, masks, limits, work) {
         return false;
@@ -570,6 +614,17 @@ pub fn prepare(
         return false;
     }
     turn::turn(states, values, targets, costs, to, fee);
-    fill_rooms(states, values, to, fee, accepting, masks, limits, work);
+    rank::rank(states, values, targets, costs, arcs);
+    fill_needs(
+        states,
+        values,
+        to,
+        fee,
+        arcs,
+        accepting,
+        masks,
+        limits,
+        work,
+    );
     true
 }

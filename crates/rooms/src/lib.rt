@@ -1,4 +1,4 @@
-// The backward pass: rows, the rule tables turned, and the rooms of all layers.
+// The backward pass: rows, the rule tables turned, and the needs of all layers.
 pub mod backward;
 pub mod rows;
 pub mod turn;

@@ -1,9 +1,11 @@
 // Rows of numbers, one for each state.
 ghost use mathlib.Core.Path.{_≡_};
-ghost use Prim.Native.Nat.{_-_, _≤_, min, max};
+ghost use Prim.Native.Nat.{suc, _+_, _-_, _≤_, min, max};
 ghost use lib.ListN.{length, getD};
+ghost use Rattle.meaning.specs.Bounds.{top};
 ghost use Rattle.rules.specs.Answers.{zeros};
-ghost use Rattle.rooms.specs.Tables.{blanked, copied, Filled, Matches};
+ghost use Rattle.rooms.specs.Tables.{blanked, copied, Filled, Low, Matches};
+use rules::bounds::TOP;
 use rules::numbers::lesser;
 
 // The greater of two numbers.
@@ -51,14 +53,14 @@ pub fn copy(count: usize, from: &[u32], row: &mut [u32])
     }
 }
 
-// Whether a row is another one, less a fall.
-pub(crate) fn fallen(count: usize, fall: u32, from: &[u32], row: &[u32]) -> bool
-    requires { ⌜ (count ≤ length (now from)) × (count ≤ length (now row)) ⌝ }
-    ensures { λ r. ⌜ Matches (λ k. getD (now (from .entry)) k 0 - fall) count (now (row .entry)) r ⌝ }
+// Whether a row of needs is another one with a rise, one more than the top at most.
+pub(crate) fn risen(count: usize, rise: u32, from: &[u32], row: &[u32]) -> bool
+    requires { ⌜ (count ≤ length (now from)) × (count ≤ length (now row)) × (rise ≤ suc top) × Low count (now from) ⌝ }
+    ensures { λ r. ⌜ Matches (λ k. min (suc top) (getD (now (from .entry)) k 0 + rise)) count (now (row .entry)) r ⌝ }
 {
     let mut j: usize = 0;
     while j < count {
-        if row[j] != less(from[j], fall) {
+        if row[j] != lesser(TOP + 1, from[j] + rise) {
             return false;
         }
         j += 1;
@@ -66,14 +68,16 @@ pub(crate) fn fallen(count: usize, fall: u32, from: &[u32], row: &[u32]) -> bool
     true
 }
 
-// The first places of a row, as another has them less a fall, cut at the limit of the step into it.
-pub(crate) fn lower(count: usize, fall: u32, cap: u32, from: &[u32], row: &mut [u32])
-    requires { ⌜ (count ≤ length (now from)) × (count ≤ length (now row)) ⌝ }
-    ensures { λ _. ⌜ Filled (λ k. min cap (getD (now (from .entry)) k 0 - fall)) count (now (row .entry)) (now (row .exit)) ⌝ }
+// A row of needs, none below the least that the limit of the step into it makes, and loaded by itself.
+pub(crate) fn settle(count: usize, least: u32, row: &mut [u32], needs: &mut [u32])
+    requires { ⌜ (count ≤ length (now row)) × (count ≤ length (now needs)) ⌝ }
+    ensures { λ _. ⌜ Filled (λ k. max (getD (now (row .entry)) k 0) least) count (now (row .entry)) (now (row .exit)) × Filled (λ k. max (getD (now (row .entry)) k 0) least) count (now (needs .entry)) (now (needs .exit)) ⌝ }
 {
     let mut n: usize = 0;
     while n < count {
-        row[n] = lesser(cap, less(from[n], fall));
+        let need = greater(row[n], least);
+        row[n] = need;
+        needs[n] = need;
         n += 1;
     }
 }

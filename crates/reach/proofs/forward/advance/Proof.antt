@@ -2,19 +2,19 @@ use Prim.Native.Nat.{ℕ, suc, _≤_, _-_}
 use mathlib.Core.Path.{_≡_, refl, _∙_}
 use lib.ListN.{length, length-set, getD}
 use Rattle.meaning.specs.Bounds.{top}
-use Rattle.rooms.specs.Tables.{Filled}
+use Rattle.rooms.specs.Tables.{Filled, roomsBy}
 use Rattle.reach.specs.Looks.{struck}
-use Rattle.rooms.proofs.Filling.{filled-none, filled-more, filled-end}
+use Rattle.rooms.proofs.Filling.{within, filled-none, filled-more, filled-end}
 use native.Mathlib.Omega.{arith}
 use borrow.Author.Needs.{needs}
 use Rattle.reach.proofs.forward.advance.Statement.{statement}
 use Rattle.reach.proofs.forward.advance.Tie as tie
 
 abbrev Inv-loop : tie.InvT-loop
-Inv-loop states next front₀ onward₀ q₀ front onward q = (q .0 ≤ states) × (length front ≡ length front₀) × (length onward ≡ length onward₀) × Filled (λ (k : ℕ). struck (getD onward₀ k 0) (getD next k 0)) (q .0) front₀ front × Filled (λ (k : ℕ). suc top) (q .0) onward₀ onward
+Inv-loop states needs front₀ onward₀ q₀ front onward q = (q .0 ≤ states) × (length front ≡ length front₀) × (length onward ≡ length onward₀) × Filled (λ (k : ℕ). struck (getD onward₀ k 0) (roomsBy needs k)) (q .0) front₀ front × Filled (λ (k : ℕ). suc top) (q .0) onward₀ onward
 
 abbrev μ-loop : tie.MeasureT-loop
-μ-loop states next front₀ onward₀ q₀ front onward q = states - q .0
+μ-loop states needs front₀ onward₀ q₀ front onward q = states - q .0
 
 loop-holds : tie.Need-loop-holds Inv-loop μ-loop
 loop-holds c = (omega arith, refl, refl, filled-none _ _, filled-none _ _)
@@ -38,7 +38,9 @@ shared-slice-read-strike : tie.Need-shared-slice-read-strike Inv-loop μ-loop
 shared-slice-read-strike c = search needs
 
 strike-requires : tie.Need-strike-requires Inv-loop μ-loop
-strike-requires c κs = search needs
+strike-requires c κs = let l = c .before .before .before .before .before .loop in
+    let p = c .before .before .before .before .before .before .before .before .before .pre in
+    (rw (l .inv .4 .left (l .q .0) (omega arith)) (p .5 .low (l .q .0) (omega arith)), p .4 .low (l .q .0) (omega arith))
 
 mul-front : tie.Need-mul-front Inv-loop μ-loop
 mul-front c = search needs
@@ -64,7 +66,7 @@ loop-less c = search needs
 loop-again : tie.Need-loop-again Inv-loop μ-loop
 unfolding top
 loop-again c = let l = c .before .before .before .before .before .before .before .loop in
-    (omega arith, simp length-set (l .inv .1), simp length-set (l .inv .2), filled-more _ (omega arith) (l .inv .3) (c .before .strike .ensures ∙ rw (l .inv .4 .left (l .q .0) (omega arith))), filled-more _ (omega arith) (l .inv .4) refl)
+    (omega arith, simp length-set (l .inv .1), simp length-set (l .inv .2), filled-more _ (omega arith) (l .inv .3) (c .before .strike .ensures ∙ rw (l .inv .4 .left (l .q .0) (omega arith), within (c .before .before .before .before .before .before .before .before .before .before .before .args .needs .now) (l .q .0) 0 (suc top) (omega arith))), filled-more _ (omega arith) (l .inv .4) refl)
 
 same-length : tie.Need-same-length Inv-loop μ-loop
 same-length c = c .before .before .loop .inv .1

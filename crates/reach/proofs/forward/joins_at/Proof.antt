@@ -1,59 +1,73 @@
 use Rattle.meaning.specs.Bounds.{top}
+use lib.ListN.{getD}
 use native.Mathlib.Omega.{arith}
+use Rattle.reach.proofs.Needing.{arc-fits}
 use borrow.Author.Needs.{needs}
 use Rattle.reach.proofs.forward.joins_at.Statement.{statement}
 use Rattle.reach.proofs.forward.joins_at.Tie as tie
 
-cast-at : tie.Need-cast-at
-cast-at c = search needs
+turned-at-requires : tie.Need-turned-at-requires
+turned-at-requires c κs = search needs
 
-mul-spent : tie.Need-mul-spent
-mul-spent c = search needs
+cast-result : tie.Need-cast-result
+cast-result c = search needs
 
-shared-slice-read-spent : tie.Need-shared-slice-read-spent
-shared-slice-read-spent c = search needs
-
-mul-spent-2 : tie.Need-mul-spent-2
-mul-spent-2 c = search needs
-
-shared-slice-read-spent-2 : tie.Need-shared-slice-read-spent-2
-shared-slice-read-spent-2 c = search needs
-
-cast-spent : tie.Need-cast-spent
-cast-spent c = omega (arith, c .shared-slice-known2 .given (c .before .before .before .args .q .0))
-
-add-spent : tie.Need-add-spent
-unfolding top
-add-spent c = omega (arith, c .shared-slice-known2 .given (c .before .before .before .args .q .0))
+mul-result : tie.Need-mul-result
+mul-result c = search needs
 
 shared-slice-read-result : tie.Need-shared-slice-read-result
 shared-slice-read-result c = search needs
 
-cast-result : tie.Need-cast-result
-cast-result c = omega (arith, c .shared-slice-known3 .given (c .before .before .before .before .args .q .0))
-
-mul-result : tie.Need-mul-result
-mul-result c = omega (arith, c .shared-slice-known3 .given (c .before .before .before .before .args .q .0))
+mul-result-2 : tie.Need-mul-result-2
+mul-result-2 c = search needs
 
 shared-slice-read-result-2 : tie.Need-shared-slice-read-result-2
-shared-slice-read-result-2 c = omega (arith, c .before .shared-slice-known3 .given (c .before .before .before .before .before .args .q .0))
+shared-slice-read-result-2 c = search needs
+
+cast-result-2 : tie.Need-cast-result-2
+cast-result-2 c = omega (arith, c .shared-slice-known6 .given (c .before .before .before .turned-at .result))
+
+add-result : tie.Need-add-result
+unfolding top
+add-result c = omega (arith, c .shared-slice-known6 .given (c .before .before .before .turned-at .result))
+
+shared-slice-read-result-3 : tie.Need-shared-slice-read-result-3
+shared-slice-read-result-3 c = search needs
+
+cast-result-3 : tie.Need-cast-result-3
+cast-result-3 c = omega (arith, c .shared-slice-known7 .given (c .before .before .before .before .turned-at .result))
+
+mul-result-3 : tie.Need-mul-result-3
+mul-result-3 c = omega (arith, c .shared-slice-known7 .given (c .before .before .before .before .turned-at .result))
+
+shared-slice-read-result-4 : tie.Need-shared-slice-read-result-4
+shared-slice-read-result-4 c = omega (arith, c .before .shared-slice-known7 .given (c .before .before .before .before .before .turned-at .result))
+
+add-result-2 : tie.Need-add-result-2
+unfolding top
+add-result-2 c = let a = c .before .before .before .before .before .before .before .before .before .before .args in
+    let g = c .before .shared-slice-known7 .given (c .before .before .before .before .before .turned-at .result) in
+    omega (arith, c .before .before .shared-slice-known6 .given (c .before .before .before .before .before .turned-at .result), c .before .before .before .before .before .before .before .before .before .before .pre .7 .low (getD (a .targets .now) (c .before .before .before .before .before .turned-at .result) 0) (omega arith))
 
 returns : tie.Need-returns
-returns c = search needs
+returns c = let a = c .before .before .before .before .before .before .before .before .before .before .args in
+    arc-fits (a .targets .now) (a .costs .now) (a .needs .now) _ (a .q .0) (a .v .0) (c .before .before .before .before .before .turned-at .ensures) (omega (arith, c .before .shared-slice-known7 .given (c .before .before .before .before .before .turned-at .result)))
 
 pub joins-at-spec : {M : Type 1} → statement M
 joins-at-spec =
     tie.close
     (tie.spec
-    cast-at
-    mul-spent
-    shared-slice-read-spent
-    mul-spent-2
-    shared-slice-read-spent-2
-    cast-spent
-    add-spent
-    shared-slice-read-result
+    turned-at-requires
     cast-result
     mul-result
+    shared-slice-read-result
+    mul-result-2
     shared-slice-read-result-2
+    cast-result-2
+    add-result
+    shared-slice-read-result-3
+    cast-result-3
+    mul-result-3
+    shared-slice-read-result-4
+    add-result-2
     returns)

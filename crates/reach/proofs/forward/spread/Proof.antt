@@ -51,8 +51,8 @@ same-length-8 : tie.Need-same-length-8
 same-length-8 c = search needs
 
 returns-2 : tie.Need-returns-2
-returns-2 c = let p = c .before .before .before .before .before .before .before .before .before .before .before .before .before .before .before .before .before .before .before .before .before .before .before .before .before .before .before .before .before .before .pre in
-    let a = c .before .before .before .before .before .before .before .before .before .before .before .before .before .before .before .before .before .before .before .before .before .before .before .before .before .before .before .before .before .before .args in
+returns-2 c = let p = c .before .before .before .before .before .before .before .before .before .before .before .before .before .before .before .before .before .before .before .before .before .before .before .before .before .before .before .before .before .before .before .before .pre in
+    let a = c .before .before .before .before .before .before .before .before .before .before .before .before .before .before .before .before .before .before .before .before .before .before .before .before .before .before .before .before .before .before .before .before .args in
     let n = c .before .before .before .before .before .before .note .ensures in
     (c .before .before .before .before .before .before .before .before .before .before .before .before .before .before .span-after .ensures .0, c .before .before .before .before .before .before .before .before .before .before .before .before .before .before .span-after .ensures .1, c .before .before .before .before .before .before .before .before .before .before .before .before .before .before .before .before .before .gather .ensures, past-noted (turned (a .targets .now) (a .costs .now)) (a .states) (a .values) _ (a .mask .0) (a .front .now) _ (a .fronts .now) (a .onwards .now) (a .held .now) _ _ _ (p .1) (omega (arith, c .before .before .before .before .before .before .before .before .before .before .before .slot-of2 .ensures, p .12)) (p .13) (p .15) (c .before .before .before .before .before .before .before .before .before .before .before .before .before .before .before .before .before .gather .ensures) (n .0) (n .1) (n .2))
 

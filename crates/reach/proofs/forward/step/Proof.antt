@@ -1,7 +1,8 @@
 use mathlib.Core.Path.{_∙_}
-use Rattle.reach.proofs.Living.{rooms-copied}
-use Rattle.reach.proofs.Passing.{stepped-is}
 use Rattle.rooms.proofs.Filling.{copied-filled}
+use Rattle.reach.proofs.Needing.{filled-low}
+use Rattle.reach.proofs.Rising.{spread-low}
+use Rattle.reach.proofs.Passing.{stepped-is}
 use native.Mathlib.Omega.{arith}
 use borrow.Author.Needs.{needs}
 use Rattle.reach.proofs.forward.step.Statement.{statement}
@@ -11,16 +12,18 @@ copy-requires : tie.Need-copy-requires
 copy-requires c κs = search needs
 
 keep-requires : tie.Need-keep-requires
-keep-requires c κs = let p = c .before .before .before .before .before .before .before .before .before .before .before .before .before .before .before .before .before .pre in
-    (p .1, p .2, p .3, p .4, p .9, c .before .before .before .before .before .copy .kept .1 .1 .0 ∙ p .10, p .12, p .16, rooms-copied (p .17) (p .18) (copied-filled _ _ (p .6) (omega (arith, p .1, p .10)) (c .before .before .before .before .before .copy .ensures)))
+keep-requires c κs = let p = c .before .before .before .before .before .before .before .before .before .before .before .before .before .before .before .before .before .before .before .pre in
+    (p .1, p .2, p .3, p .4, omega (arith, p .1, p .9), c .before .before .before .before .before .copy .kept .1 .1 .0 ∙ p .10, p .12, p .16, filled-low (p .10) (p .18) (copied-filled _ _ (p .6) (omega (arith, p .1, p .10)) (c .before .before .before .before .before .copy .ensures)) (p .17 .low))
 
 spread-requires : tie.Need-spread-requires
-spread-requires c κs = let p = c .before .before .before .before .before .before .before .before .before .before .before .before .before .before .before .before .before .before .before .before .before .before .before .before .before .before .pre in
-    (p .0, p .1, p .2, p .3, p .4, p .5, p .7, p .8, p .9, p .11, p .13, p .14, p .15, p .16, p .19, p .20)
+spread-requires c κs = let p = c .before .before .before .before .before .before .before .before .before .before .before .before .before .before .before .before .before .before .before .before .before .before .before .before .before .before .before .before .pre in
+    (p .0, p .1, p .2, p .3, p .4, p .5, p .7, p .8, p .9, p .11, p .13, p .14, p .15, p .16, p .19, p .20, p .21)
 
 advance-requires : tie.Need-advance-requires
-advance-requires c κs = let p = c .before .before .before .before .before .before .before .before .before .before .before .before .before .before .before .before .before .before .before .before .before .before .before .before .before .before .before .before .before .before .before .before .before .before .before .before .before .before .pre in
-    (p .1, omega (arith, c .before .before .before .before .before .before .before .before .before .before .before .before .before .before .before .before .before .before .before .before .before .before .before .before .before .before .copy .kept .1 .1 .0, p .1, p .10), p .9, omega (arith, c .before .before .before .before .before .before .before .before .before .before .before .spread .kept .1 .1 .1 .1 .1 .1 .1 .1 .1 .0, p .1, p .11))
+advance-requires c κs = let p = c .before .before .before .before .before .before .before .before .before .before .before .before .before .before .before .before .before .before .before .before .before .before .before .before .before .before .before .before .before .before .before .before .before .before .before .before .before .before .before .before .pre in
+    let l = c .before .before .before .before .before .before .before .before .before .before .before .before .before .before .before .before .before .before .before .before .before .before .before .before .before .before .copy in
+    let s = c .before .before .before .before .before .before .before .before .before .before .before .spread in
+    (p .1, omega (arith, l .kept .1 .1 .0, p .1, p .10), omega (arith, p .1, p .9), omega (arith, s .kept .1 .1 .1 .1 .1 .1 .1 .1 .1 .1 .1 .0, p .1, p .11), filled-low (p .10) (p .18) (copied-filled _ _ (p .6) (omega (arith, p .1, p .10)) (l .ensures)) (p .17 .low), spread-low (s .ensures .2))
 
 same-length : tie.Need-same-length
 same-length c = search needs
@@ -44,7 +47,7 @@ same-length-7 : tie.Need-same-length-7
 same-length-7 c = search needs
 
 returns : tie.Need-returns
-returns c = let p = c .before .before .before .before .before .before .before .before .before .before .before .before .before .before .before .before .before .before .before .before .before .before .before .before .before .before .before .before .before .before .before .before .before .before .before .before .before .before .before .before .before .before .before .pre in
+returns c = let p = c .before .before .before .before .before .before .before .before .before .before .before .before .before .before .before .before .before .before .before .before .before .before .before .before .before .before .before .before .before .before .before .before .before .before .before .before .before .before .before .before .before .before .before .before .before .pre in
     let s = c .before .before .before .before .before .before .before .before .before .before .before .before .before .before .before .before .spread in
     (stepped-is (p .19) (copied-filled _ _ (p .6) (omega (arith, p .1, p .10)) (c .before .before .before .before .before .before .before .before .before .before .before .before .before .before .before .before .before .before .before .before .before .before .before .before .before .before .before .before .before .before .before .copy .ensures)) (c .before .before .before .before .before .before .before .before .before .before .before .before .before .before .before .before .before .before .before .before .before .before .before .before .before .keep .ensures) (s .ensures .2) (c .before .before .before .before .advance .ensures .0) (c .before .before .before .before .advance .ensures .1), s .ensures .0, s .ensures .1, s .ensures .3)
 

@@ -2,6 +2,7 @@ use Prim.Native.Nat.{_≤_, _-_}
 use mathlib.Core.Path.{sym, _∙_}
 use borrow.Author.Tests.{lt-ltb, le-ltb}
 use lib.Bits.{and-le-r}
+use Rattle.rooms.specs.Tables.{turned}
 use Rattle.reach.proofs.Sweeping.{joins-here}
 use Rattle.reach.proofs.Living.{Looked, looked-none, looked-few, looked-more, looked-end}
 use borrow.Author.Needs.{needs}
@@ -10,20 +11,21 @@ use Rattle.reach.proofs.forward.support.Statement.{statement}
 use Rattle.reach.proofs.forward.support.Tie as tie
 
 abbrev Inv-loop : tie.InvT-loop
-Inv-loop states targets costs front live next left₀ left = (left ≤ live) × Looked targets costs front next states left
+Inv-loop states targets costs front live needs v left₀ left = (left ≤ live) × Looked (turned targets costs) front needs (v .0) states left
 
 abbrev μ-loop : tie.MeasureT-loop
-μ-loop states targets costs front live next left₀ left = left
+μ-loop states targets costs front live needs v left₀ left = left
 
 loop-holds : tie.Need-loop-holds Inv-loop μ-loop
-loop-holds c = (omega arith, looked-none _ _ _ _ _ _ (c .before .before .before .before .pre .6) (c .before .before .before .before .pre .7))
+loop-holds c = (omega arith, looked-none _ _ _ _ _ _ (c .before .before .before .before .pre .7))
 
-cast-t11 : tie.Need-cast-t11 Inv-loop μ-loop
-cast-t11 c = omega (arith, looked-few _ _ _ _ _ (c .before .loop .inv .1) (omega arith) (omega arith))
+cast-t12 : tie.Need-cast-t12 Inv-loop μ-loop
+cast-t12 c = omega (arith, looked-few _ _ _ _ _ (c .before .loop .inv .1) (omega arith) (omega arith))
 
 joins-at-requires : tie.Need-joins-at-requires Inv-loop μ-loop
-joins-at-requires c κs = let h = looked-few _ _ _ _ _ (c .before .loop .inv .1) (omega arith) (omega arith) in
-    (omega arith, omega arith, omega arith, omega arith, c .before .before .before .before .before .before .pre .5 .low _ h)
+joins-at-requires c κs = let p = c .before .before .before .before .before .before .pre in
+    let h = looked-few _ _ _ _ _ (c .before .loop .inv .1) (omega arith) (omega arith) in
+    (p .1, p .2, omega arith, p .5, omega arith, p .4, p .6 .low _ h, p .8)
 
 returns : tie.Need-returns Inv-loop μ-loop
 returns c = let h = looked-few _ _ _ _ _ (c .before .before .before .loop .inv .1) (omega arith) (omega arith) in
@@ -41,8 +43,8 @@ loop-again c = (
   looked-more _ _ _ _ _ _ (c .before .before .before .loop .inv .1) (omega arith) (omega arith) (c .before .joins-at .ensures) (c .if1 .left),
 )
 
-cast-t15 : tie.Need-cast-t15 Inv-loop μ-loop
-cast-t15 c = search needs
+cast-t17 : tie.Need-cast-t17 Inv-loop μ-loop
+cast-t17 c = search needs
 
 returns-2 : tie.Need-returns-2 Inv-loop μ-loop
 returns-2 c = let n = c .before .before .before .before .before .before .args .states in
@@ -55,11 +57,11 @@ support-spec =
     Inv-loop
     μ-loop
     loop-holds
-    cast-t11
+    cast-t12
     joins-at-requires
     returns
     sub-left
     loop-less
     loop-again
-    cast-t15
+    cast-t17
     returns-2)

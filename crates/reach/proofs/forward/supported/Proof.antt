@@ -14,10 +14,11 @@ cast-if1 : tie.Need-cast-if1
 cast-if1 c = search needs
 
 joins-at-requires : tie.Need-joins-at-requires
-joins-at-requires c κs = (omega arith, omega arith, omega arith, omega arith, c .before .before .before .before .before .before .before .before .before .pre .5 .low _ (omega arith))
+joins-at-requires c κs = let p = c .before .before .before .before .before .before .before .before .before .pre in
+    (p .1, p .2, omega arith, p .5, omega arith, p .4, p .7 .low _ (omega arith), p .9)
 
 returns : tie.Need-returns
-returns c = (joins-here _ _ _ _ _ _ (c .before .before .if1 .taken) (c .before .joins-at .ensures) (c .if2 .taken), c .before .before .before .before .before .before .before .before .before .before .before .pre .7)
+returns c = (joins-here _ _ _ _ _ _ (c .before .before .if1 .taken) (c .before .joins-at .ensures) (c .if2 .taken), c .before .before .before .before .before .before .before .before .before .before .before .pre .8)
 
 recalled-requires : tie.Need-recalled-requires
 recalled-requires c κs = search needs

@@ -1,8 +1,9 @@
 use mathlib.Core.Path.{sym}
 use Rattle.meaning.specs.Bounds.{top}
 use Rattle.rules.proofs.Checks.{and-fails, and-goes, test-failed, test-passed}
-use Rattle.rooms.specs.Tables.{turned}
+use lib.ListN.{getD}
 use native.Mathlib.Omega.{arith}
+use Rattle.reach.proofs.Needing.{arc-fits}
 use borrow.Author.Needs.{needs}
 use Rattle.reach.proofs.walk.takeable.Statement.{statement}
 use Rattle.reach.proofs.walk.takeable.Tie as tie
@@ -41,9 +42,15 @@ mul-result-2 c = omega (arith, c .shared-slice-known5 .given (c .before .before 
 shared-slice-read-result-3 : tie.Need-shared-slice-read-result-3
 shared-slice-read-result-3 c = omega (arith, c .before .shared-slice-known5 .given (c .before .before .before .turned-at .result))
 
+add-result-2 : tie.Need-add-result-2
+unfolding top
+add-result-2 c = let a = c .before .before .before .before .before .before .before .before .before .args in
+    let g = c .before .shared-slice-known5 .given (c .before .before .before .turned-at .result) in
+    omega (arith, c .before .before .shared-slice-known4 .given (c .before .before .before .turned-at .result), c .before .before .before .before .before .before .before .before .before .pre .6 .low (getD (a .targets .now) (c .before .before .before .turned-at .result) 0) (omega arith))
+
 returns-2 : tie.Need-returns-2
-unfolding turned
-returns-2 c = sym (and-goes _ _ _ (test-passed (c .before .before .before .before .before .has .ensures) (c .before .before .before .before .if1 .left)) (rw (c .before .before .before .turned-at .ensures)))
+returns-2 c = let a = c .before .before .before .before .before .before .before .before .before .args in
+    sym (and-goes _ _ _ (test-passed (c .before .before .before .before .before .has .ensures) (c .before .before .before .before .if1 .left)) (sym (arc-fits (a .targets .now) (a .costs .now) (a .needs .now) (a .spent) (a .q .0) (a .v .0) (c .before .before .before .turned-at .ensures) (omega (arith, c .before .shared-slice-known5 .given (c .before .before .before .turned-at .result))))))
 
 pub takeable-spec : {M : Type 1} → statement M
 takeable-spec =
@@ -60,4 +67,5 @@ takeable-spec =
     cast-result-2
     mul-result-2
     shared-slice-read-result-3
+    add-result-2
     returns-2)

@@ -1,34 +1,39 @@
-use Prim.Native.Nat.{_≤_, _-_, _+_, _*_}
+use Prim.Native.Nat.{_+_, _*_, _-_, _≤_}
 use mathlib.Core.Path.{_≡_, refl, sym, _∙_}
 use mathlib.Core.Logic.{⊎-elim}
-use lib.ListN.{length, length-set}
+use lib.ListN.{length, length-set, getD}
 use Rattle.meaning.specs.Bounds.{top}
 use Rattle.rooms.specs.Tables.{turned}
-use Rattle.reach.proofs.Walking.{Tried, Walking, walking-starts, walking-more, walks-none, walks-some, tried-none, tried-more, turned-to, turned-fee}
-use lib.ListN.{getD}
 use Rattle.rooms.proofs.Filling.{part-copied}
-use Rattle.rooms.proofs.Layering.{loaded-none}
+use Rattle.rooms.proofs.Layering.{needed-none}
+use Rattle.reach.proofs.Living.{row-low}
+use Rattle.reach.proofs.Needing.{filled-low}
+use Rattle.reach.proofs.Walking.{Tried, Walking, walking-starts, walking-more, walks-none, walks-some, tried-none, tried-more, turned-to, turned-fee}
 use borrow.Author.Needs.{needs}
 use native.Mathlib.Omega.{arith}
 use Rattle.reach.proofs.walk.walk.Statement.{statement}
 use Rattle.reach.proofs.walk.walk.Tie as tie
 
 abbrev Inv-loop : tie.InvT-loop
-Inv-loop states values targets costs spent masks work roster next q cost i row end v₀ v = (v .0 ≤ values) × Tried (turned targets costs) next (getD masks i 0) (q .0) cost (v .0)
+Inv-loop states values targets costs spent masks work roster needs q cost i row end v₀ v = (v .0 ≤ values) × Tried (turned targets costs) needs (getD masks i 0) (q .0) cost (v .0)
 
 abbrev μ-loop : tie.MeasureT-loop
-μ-loop states values targets costs spent masks work roster next q cost i row end v₀ v = values - v .0
+μ-loop states values targets costs spent masks work roster needs q cost i row end v₀ v = values - v .0
 
 abbrev Inv-places : tie.InvT-places
-Inv-places states values targets costs spent masks work roster₀ next₀ q₀ cost₀ i₀ roster next q cost i = (i ≤ length masks) × (length next ≡ 256) × (length roster ≡ length masks) × Walking (turned targets costs) states values (q₀ .0) cost₀ masks work roster₀ roster next (q .0) cost i
+Inv-places states values targets costs spent masks work roster₀ needs₀ q₀ cost₀ i₀ roster needs q cost i = (i ≤ length masks) × (length needs ≡ 256) × (length roster ≡ length masks) × Walking (turned targets costs) states values (q₀ .0) cost₀ masks work roster₀ roster needs (q .0) cost i
 
 abbrev μ-places : tie.MeasureT-places
-μ-places states values targets costs spent masks work roster₀ next₀ q₀ cost₀ i₀ roster next q cost i = length masks - i
+μ-places states values targets costs spent masks work roster₀ needs₀ q₀ cost₀ i₀ roster needs q cost i = length masks - i
+
+add-needs : tie.Need-add-needs Inv-loop μ-loop Inv-places μ-places
+add-needs c = search needs
 
 places-holds : tie.Need-places-holds Inv-loop μ-loop Inv-places μ-places
+unfolding top
 places-holds c = let p = c .before .before .before .before .before .pre in
     let a = c .before .before .before .before .before .args in
-    (omega arith, refl, p .4, walking-starts (turned (a .targets .now) (a .costs .now)) (a .states) (a .values) (a .start .0) (a .spent) (a .masks .now) (a .work .now) (a .roster .now) _ (p .2) (p .3) (loaded-none (a .states)))
+    (omega arith, refl, p .4, walking-starts (turned (a .targets .now) (a .costs .now)) (a .states) (a .values) (a .start .0) (a .spent) (a .masks .now) (a .work .now) (a .roster .now) _ (p .2) (p .3) (needed-none (a .states) refl))
 
 add-row : tie.Need-add-row Inv-loop μ-loop Inv-places μ-places
 add-row c = omega (arith, c .before .before .before .before .before .before .before .pre .0 .few-places)
@@ -66,19 +71,29 @@ cast-if1 c = search needs
 slice-aggregate-takeable : tie.Need-slice-aggregate-takeable Inv-loop μ-loop Inv-places μ-places
 slice-aggregate-takeable c = sym (c .before .before .before .before .before .copy .kept .1 .1 .0 ∙ c .before .before .before .before .before .before .before .before .before .places .inv .1)
 
-mul-t29 : tie.Need-mul-t29 Inv-loop μ-loop Inv-places μ-places
-mul-t29 c = search needs
+mul-t30 : tie.Need-mul-t30 Inv-loop μ-loop Inv-places μ-places
+mul-t30 c = search needs
 
-shared-slice-read-t35 : tie.Need-shared-slice-read-t35 Inv-loop μ-loop Inv-places μ-places
-shared-slice-read-t35 c = search needs
+shared-slice-read-t36 : tie.Need-shared-slice-read-t36 Inv-loop μ-loop Inv-places μ-places
+shared-slice-read-t36 c = search needs
 
 takeable-requires : tie.Need-takeable-requires Inv-loop μ-loop Inv-places μ-places
-takeable-requires c κs = let p = c .before .before .before .before .before .before .before .before .before .before .before .before .before .before .before .before .pre .0 in
-    let w = c .before .before .before .before .before .before .before .before .before .before .places .inv .3 in
-    (p .all-targets, p .all-costs, c .before .before .before .before .before .before .copy .kept .1 .1 .0 ∙ c .before .before .before .before .before .before .before .before .before .before .places .inv .1, omega (arith, w .state, p .few-states), w .low, omega (arith, p .few-values))
+takeable-requires c κs = let p = c .before .before .before .before .before .before .before .before .before .before .before .before .before .before .before .before .pre in
+    let a = c .before .before .before .before .before .before .before .before .before .before .before .before .before .before .before .before .args in
+    let o = c .before .before .before .before .before .before .before .before .before .before .places in
+    let l = c .before .before .before .before .before .before .copy in
+    let t = c .before .before .before .before .before .before .before .before .before .places-test .taken in (
+      p .0 .all-targets,
+      p .0 .all-costs,
+      l .kept .1 .1 .0 ∙ o .inv .1,
+      omega (arith, o .inv .3 .state, p .0 .few-states),
+      o .inv .3 .low,
+      omega (arith, p .0 .few-values),
+      filled-low (o .inv .1) (o .inv .3 .bare) (part-copied ((o .i + 1) * 64) (a .work .now) (p .0 .few-states) (omega (arith, t, p .0 .all-work)) (omega (arith, o .inv .1, p .0 .few-states)) (l .ensures)) (row-low (a .states) (length (a .masks .now)) (o .i) (a .work .now) (p .0 .few-states) t (p .1) .low),
+    )
 
-add-t39 : tie.Need-add-t39 Inv-loop μ-loop Inv-places μ-places
-add-t39 c = omega (arith, c .before .before .before .before .before .before .before .before .before .before .before .before .before .before .before .before .before .before .before .pre .0 .few-values)
+add-t40 : tie.Need-add-t40 Inv-loop μ-loop Inv-places μ-places
+add-t40 c = omega (arith, c .before .before .before .before .before .before .before .before .before .before .before .before .before .before .before .before .before .before .before .pre .0 .few-values)
 
 loop-less : tie.Need-loop-less Inv-loop μ-loop Inv-places μ-places
 loop-less c = search needs
@@ -105,8 +120,8 @@ add-cost : tie.Need-add-cost Inv-loop μ-loop Inv-places μ-places
 unfolding top
 add-cost c = omega (arith, c .shared-slice-known6 .given (c .before .turned-at .result), c .before .before .before .before .before .before .before .before .before .before .before .before .before .before .places .inv .3 .low)
 
-shared-slice-read-t45 : tie.Need-shared-slice-read-t45 Inv-loop μ-loop Inv-places μ-places
-shared-slice-read-t45 c = omega (arith, c .before .before .turned-at .ensures, c .before .before .before .before .before .before .before .before .before .before .before .before .before .before .before .before .before .before .before .before .before .pre .0 .few-values, c .before .before .before .before .before .before .before .before .before .before .before .before .before .before .before .places .inv .3 .state, c .before .before .before .before .before .before .before .before .before .before .before .before .before .before .before .before .before .before .before .before .before .pre .0 .few-states, c .before .before .before .before .before .before .before .before .before .before .before .before .before .before .before .before .before .before .before .before .before .pre .0 .all-targets)
+shared-slice-read-t46 : tie.Need-shared-slice-read-t46 Inv-loop μ-loop Inv-places μ-places
+shared-slice-read-t46 c = omega (arith, c .before .before .turned-at .ensures, c .before .before .before .before .before .before .before .before .before .before .before .before .before .before .before .before .before .before .before .before .before .pre .0 .few-values, c .before .before .before .before .before .before .before .before .before .before .before .before .before .before .before .places .inv .3 .state, c .before .before .before .before .before .before .before .before .before .before .before .before .before .before .before .before .before .before .before .before .before .pre .0 .few-states, c .before .before .before .before .before .before .before .before .before .before .before .before .before .before .before .before .before .before .before .before .before .pre .0 .all-targets)
 
 add-i : tie.Need-add-i Inv-loop μ-loop Inv-places μ-places
 add-i c = omega (arith, c .before .before .before .before .before .before .before .before .before .before .before .before .before .before .before .before .before .before .before .before .before .pre .0 .few-places)
@@ -118,12 +133,13 @@ places-again : tie.Need-places-again Inv-loop μ-loop Inv-places μ-places
 places-again c = let p = c .before .before .before .before .before .before .before .before .before .before .before .before .before .before .before .before .before .before .before .before .before .pre in
     let a = c .before .before .before .before .before .before .before .before .before .before .before .before .before .before .before .before .before .before .before .before .before .args in
     let o = c .before .before .before .before .before .before .before .before .before .before .before .before .before .before .before .places in
+    let l = c .before .before .before .before .before .before .before .before .before .before .before .copy in
     let e = c .before .before .turned-at .ensures in (
       omega arith,
-      c .before .before .before .before .before .before .before .before .before .before .before .copy .kept .1 .1 .0 ∙ o .inv .1,
+      l .kept .1 .1 .0 ∙ o .inv .1,
       simp length-set (o .inv .2),
-      walking-more (turned (a .targets .now) (a .costs .now)) (a .states) (a .values) (a .start .0) (a .spent) (a .masks .now) (a .work .now) (a .roster .now) (o .roster) (o .next) _ (o .q .0) (o .cost) (o .i) (c .before .before .before .before .before .before .before .before .before .loop .v .0)
-          (p .0 .few-states) (c .before .before .before .before .before .before .before .before .before .before .before .before .before .before .places-test .taken) (o .inv .2) (p .1) (o .inv .3) (part-copied ((o .i + 1) * 64) (a .work .now) (p .0 .few-states) (omega (arith, p .0 .all-work)) (omega (arith, o .inv .1, p .0 .few-states)) (c .before .before .before .before .before .before .before .before .before .before .before .copy .ensures)) (c .before .before .before .before .before .before .before .before .before .loop .inv .1) (c .before .before .before .before .before .before .before .if1 .left) (c .before .before .before .before .takeable .ensures) (c .before .before .before .if2 .taken)
+      walking-more (turned (a .targets .now) (a .costs .now)) (a .states) (a .values) (a .start .0) (a .spent) (a .masks .now) (a .work .now) (a .roster .now) (o .roster) (o .needs) _ (o .q .0) (o .cost) (o .i) (c .before .before .before .before .before .before .before .before .before .loop .v .0)
+          (p .0 .few-states) (c .before .before .before .before .before .before .before .before .before .before .before .before .before .before .places-test .taken) (o .inv .2) (o .inv .1) (l .kept .1 .1 .0) (o .inv .3) (part-copied ((o .i + 1) * 64) (a .work .now) (p .0 .few-states) (omega (arith, c .before .before .before .before .before .before .before .before .before .before .before .before .before .before .places-test .taken, p .0 .all-work)) (omega (arith, o .inv .1, p .0 .few-states)) (l .ensures)) (c .before .before .before .before .before .before .before .before .before .loop .inv .1) (c .before .before .before .before .before .before .before .if1 .left) (c .before .before .before .before .takeable .ensures) (c .before .before .before .if2 .taken)
           (turned-to (a .targets .now) (a .costs .now) (o .q .0) (c .before .before .before .before .before .before .before .before .before .loop .v .0) e) (turned-fee (a .targets .now) (a .costs .now) (o .q .0) (o .cost) (c .before .before .before .before .before .before .before .before .before .loop .v .0) e),
     )
 
@@ -135,10 +151,10 @@ returns c = let p = c .before .before .before .before .before .before .before .p
     let a = c .before .before .before .before .before .before .before .args in
     let o = c .before .places in
     ⊎-elim
-    (λ w. walks-some (turned (a .targets .now) (a .costs .now)) (a .states) (a .values) (a .start .0) (a .spent) (a .masks .now) (a .work .now) (a .roster .now) (o .roster) (o .next) (o .q .0) (o .cost) (o .i)
+    (λ w. walks-some (turned (a .targets .now) (a .costs .now)) (a .states) (a .values) (a .start .0) (a .spent) (a .masks .now) (a .work .now) (a .roster .now) (o .roster) (o .needs) (o .q .0) (o .cost) (o .i)
     (p .0 .some-places) (o .inv .0) (w .left) (o .inv .2) (o .inv .3))
-    (λ w. walks-none (turned (a .targets .now) (a .costs .now)) (a .states) (a .values) (a .start .0) (a .spent) (a .masks .now) (a .work .now) (a .roster .now) (o .roster) (o .next) _ (o .q .0) (o .cost) (o .i) (w .5 .v .0)
-    (p .0 .few-states) (w .0 .taken) (o .inv .2) (p .1) (o .inv .3) (part-copied ((o .i + 1) * 64) (a .work .now) (p .0 .few-states) (omega (arith, p .0 .all-work)) (omega (arith, o .inv .1, p .0 .few-states)) (w .3 .ensures)) (w .5 .inv .1) (w .7 .taken))
+    (λ w. walks-none (turned (a .targets .now) (a .costs .now)) (a .states) (a .values) (a .start .0) (a .spent) (a .masks .now) (a .work .now) (a .roster .now) (o .roster) (o .needs) _ (o .q .0) (o .cost) (o .i) (w .5 .v .0)
+    (p .0 .few-states) (w .0 .taken) (o .inv .2) (o .inv .1) (w .3 .kept .1 .1 .0) (o .inv .3) (part-copied ((o .i + 1) * 64) (a .work .now) (p .0 .few-states) (omega (arith, w .0 .taken, p .0 .all-work)) (omega (arith, o .inv .1, p .0 .few-states)) (w .3 .ensures)) (w .5 .inv .1) (w .7 .taken))
     (c .places-test .came)
 
 pub walk-spec : {M : Type 1} → statement M
@@ -149,6 +165,7 @@ walk-spec =
     μ-loop
     Inv-places
     μ-places
+    add-needs
     places-holds
     add-row
     mul-row
@@ -162,10 +179,10 @@ walk-spec =
     loop-holds
     cast-if1
     slice-aggregate-takeable
-    mul-t29
-    shared-slice-read-t35
+    mul-t30
+    shared-slice-read-t36
     takeable-requires
-    add-t39
+    add-t40
     loop-less
     loop-again
     slice-write-roster
@@ -174,7 +191,7 @@ walk-spec =
     shared-slice-read-cost
     cast-cost
     add-cost
-    shared-slice-read-t45
+    shared-slice-read-t46
     add-i
     places-less
     places-again

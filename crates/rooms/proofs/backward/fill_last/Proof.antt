@@ -1,5 +1,4 @@
-use Rattle.rooms.proofs.Layering.{laid-row}
-use native.Mathlib.Omega.{arith}
+use Rattle.rooms.proofs.Layering.{laid-settled}
 use borrow.Author.Needs.{needs}
 use Rattle.rooms.proofs.backward.fill_last.Statement.{statement}
 use Rattle.rooms.proofs.backward.fill_last.Tie as tie
@@ -25,20 +24,20 @@ part-ends-end c = search needs
 ends-requires : tie.Need-ends-requires
 ends-requires c κs = search needs
 
-mul-copy : tie.Need-mul-copy
-mul-copy c = search needs
+mul-settle : tie.Need-mul-settle
+mul-settle c = search needs
 
-sub-copy : tie.Need-sub-copy
-sub-copy c = search needs
+sub-settle : tie.Need-sub-settle
+sub-settle c = search needs
 
-part-copy-start : tie.Need-part-copy-start
-part-copy-start c = search needs
+part-settle-start : tie.Need-part-settle-start
+part-settle-start c = search needs
 
-part-copy-end : tie.Need-part-copy-end
-part-copy-end c = search needs
+part-settle-end : tie.Need-part-settle-end
+part-settle-end c = search needs
 
-copy-requires : tie.Need-copy-requires
-copy-requires c κs = search needs
+settle-requires : tie.Need-settle-requires
+settle-requires c κs = search needs
 
 same-length : tie.Need-same-length
 same-length c = search needs
@@ -47,7 +46,7 @@ same-length-2 : tie.Need-same-length-2
 same-length-2 c = search needs
 
 returns : tie.Need-returns
-returns c = laid-row _ _ (c .before .before .before .before .before .before .before .before .before .before .before .before .pre .0) (c .before .before .before .before .before .before .before .before .before .before .before .before .pre .3) (c .before .before .before .before .before .before .before .before .ends .kept .1 .1 .1 .0) (c .before .before .before .before .before .before .before .before .ends .ensures) (omega (arith, c .before .before .before .before .before .before .before .before .before .before .before .before .pre .0, c .before .before .before .before .before .before .before .before .before .before .before .before .pre .1)) (c .before .before .copy .ensures)
+returns c = laid-settled _ _ _ (c .before .before .before .before .before .before .before .before .before .before .before .before .before .pre .0) (c .before .before .before .before .before .before .before .before .before .before .before .before .before .pre .3) (c .before .before .before .before .before .before .before .before .before .ends .kept .1 .1 .0) (c .before .before .before .before .before .before .before .before .before .ends .ensures) (c .before .before .before .before .settle .kept .1 .1 .0) (c .before .before .before .before .settle .ensures)
 
 pub fill-last-spec : {M : Type 1} → statement M
 fill-last-spec =
@@ -60,11 +59,11 @@ fill-last-spec =
     part-ends-start
     part-ends-end
     ends-requires
-    mul-copy
-    sub-copy
-    part-copy-start
-    part-copy-end
-    copy-requires
+    mul-settle
+    sub-settle
+    part-settle-start
+    part-settle-end
+    settle-requires
     same-length
     same-length-2
     returns)

@@ -4,10 +4,10 @@ use Rattle.rooms.proofs.backward.roomy.Statement.{statement}
 use Rattle.rooms.proofs.backward.roomy.Tie as tie
 
 abbrev Inv-loop : tie.InvT-loop
-Inv-loop states next q₀ q = q .0 < 64
+Inv-loop states needs q₀ q = q .0 < 64
 
 abbrev μ-loop : tie.MeasureT-loop
-μ-loop states next q₀ q = states - q .0
+μ-loop states needs q₀ q = states - q .0
 
 loop-holds : tie.Need-loop-holds Inv-loop μ-loop
 loop-holds c = search needs
