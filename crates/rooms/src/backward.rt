@@ -188,7 +188,8 @@ pub(crate) struct Waiting {
     pub(crate) z: Value,
 }
 
-// One value more: it waits beside the others, or makes a fourth with them, and the row is lessened to what the four need.
+// One value more: it waits beside the others, or makes a fourth with them, and the row is lessened to what the four need. Whether it is the
+// first turn is written out at each call, so that it is not tested at every state.
 pub(crate) fn lessen_on(
     states: usize,
     targets: &[u8],
