@@ -5,13 +5,13 @@ use Prim.Native.Nat.{ℕ, suc, _+_, _*_, _-_, _≤_, _<_}
 use native.Mathlib.Omega.{arith}
 use native.Mathlib.Decide.{decLt, decLe}
 use lib.Dec.{ltb, leb}
-use lib.ListN.{length, getD, take, drop, List·getD-eq-default}
+use lib.ListN.{length, getD, take, drop}
 use borrow.Author.Tests.{lt-ltb, le-ltb, le-leb, lt-leb}
 use Rattle.meaning.specs.Meaning.{places}
 use Rattle.meaning.specs.Bounds.{top}
 use Rattle.rooms.specs.Tables.{Filled, turned, Frame, capped, room, Layers, needAt, roomsBy, Bare, Low}
 use Rattle.reach.specs.Looks.{struck}
-use Rattle.rooms.proofs.Filling.{within}
+use Rattle.ranks.proofs.Parts.{within}
 use Rattle.rooms.proofs.Layering.{needed-rooms, row-copied}
 
 -- a cost lies below a room exactly if with the need it stays within the top
@@ -36,14 +36,7 @@ pub arc-fits : (ts cs needs : List ℕ) (s q v : ℕ) {at : ℕ} → at ≡ v * 
 unfolding turned
 arc-fits ts cs needs s q v {at} e h = fits-is (s + getD cs at 0) (getD needs (getD ts at 0) 0) ∙ rw (within needs (getD ts at 0) 0 (suc top) h, e)
 
--- the row of a place, copied over the row of the place before: none still for what is no state
-pub bare-fill : {f : ℕ → ℕ} {n : ℕ} {needs now : List ℕ} → length now ≡ length needs → Bare n needs → Filled f n needs now → Bare n now
-bare-fill {n = n} {needs} {now} e b f = record { none = λ k h. go k h (decLt k (length now)) }
-  where
-    go : (k : ℕ) → n ≤ k → Dec (k < length now) → needAt now k ≡ suc top
-    go k h (yes l) = within now k (suc top) 0 l ∙ (f .left k h ∙ (within needs k 0 (suc top) (omega arith) ∙ b .none k h))
-    go k h (no l) = List·getD-eq-default now (suc top) {n = k} (omega arith)
-
+-- the row of a place, copied over the row of the place before
 pub filled-low : {f : ℕ → ℕ} {n : ℕ} {needs now : List ℕ} → length needs ≡ 256 → Bare n needs → Filled f n needs now → ((k : ℕ) → k < n → f k ≤ suc top) → Low 256 now
 filled-low {n = n} {needs} {now} l b f most = record { low = λ k m. go k m (decLt k n) }
   where

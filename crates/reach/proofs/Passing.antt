@@ -24,8 +24,8 @@ use Rattle.reach.specs.Looks.{looks, lands, reach, marks, struck, lowest
 use Rattle.rooms.proofs.Rooms.{choice-in}
 use Rattle.reach.proofs.Reach.{looks-in}
 use Rattle.reach.proofs.Sweeping.{lowest-most}
-use Rattle.rooms.proofs.Layering.{needed-rooms, drop-places}
-use Rattle.reach.proofs.Needing.{bare-fill, rooms-copied}
+use Rattle.rooms.proofs.Layering.{needed-rooms, drop-places, bare-fill}
+use Rattle.reach.proofs.Needing.{rooms-copied}
 use Rattle.reach.proofs.Front.{Front, front-opens, kept-is, front-goes}
 use Rattle.reach.proofs.Verdicts.{verdict-some, verdict-none}
 

@@ -17,7 +17,7 @@ use Rattle.meaning.proofs.Lists.{in-any}
 use Rattle.rooms.specs.Tables.{down, choices, Net, turned, roomsBy}
 use Rattle.reach.specs.Looks.{along, looks, reach, marks, arrive, joins, lowest, Pushed, Swept, Keeps}
 use Rattle.rooms.proofs.Rooms.{in-down}
-use Rattle.rooms.proofs.Filling.{part-at}
+use Rattle.ranks.proofs.Parts.{part-at}
 use Rattle.rooms.proofs.Raising.{choices-none, choices-more, choices-skip}
 use Rattle.reach.proofs.Reach.{reach-join, marks-join}
 
@@ -84,7 +84,7 @@ module _ (ts cs : List ℕ) (v at k : ℕ) (e : at ≡ v * 64) (front : List ℕ
       → arrive (take k (drop at ts)) (take k (drop at cs)) front most t n ≡ reach (turned ts cs) (λ q. getD front q 0) most t (along n v)
   unfolding arrive reach turned down
   arrive-is most t zero h = refl
-  arrive-is most t (suc n) h = rw (arrive-is most t n (omega arith), part-at ts at v k n e (omega arith), part-at cs at v k n e (omega arith))
+  arrive-is most t (suc n) h = rw (arrive-is most t n (omega arith), part-at ts at v 64 k n e (omega arith), part-at cs at v 64 k n e (omega arith))
 
 -- value by value: the least costs
 module _ (ts cs : List ℕ) (qs m : ℕ) (front : List ℕ) where

@@ -19,8 +19,8 @@ use Rattle.meaning.proofs.Members.{roster-in, allowed-length}
 use Rattle.rooms.specs.Tables.{Filled, Net, turned, frame, room, capped, roomsBy, Needed, Bare}
 use Rattle.reach.specs.Looks.{Meant, takeable, Walks}
 use Rattle.rooms.proofs.Rooms.{Way, room-way}
-use Rattle.rooms.proofs.Layering.{drop-places, drop-all}
-use Rattle.reach.proofs.Needing.{bare-fill, rooms-copied}
+use Rattle.rooms.proofs.Layering.{drop-places, drop-all, bare-fill}
+use Rattle.reach.proofs.Needing.{rooms-copied}
 use Rattle.reach.proofs.Firsts.{first-goes, first-way, first-none}
 
 -- two maps one upon the other

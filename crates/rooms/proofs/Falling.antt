@@ -11,7 +11,8 @@ use lib.Seq.{getD-set-same, getD-set-other, ext-getD}
 use Rattle.meaning.specs.Bounds.{top}
 use Rattle.rules.specs.Answers.{zeros}
 use Rattle.rooms.specs.Tables.{Net, choices, best, need, needAt, roomsBy, capped, before, Frame, frame, layer, Layers, Laid, Needed, Filled, Matches, Clear, free, high, LikeLayer, Lays}
-use Rattle.rooms.proofs.Filling.{within, row-part, laid-outside}
+use Rattle.ranks.proofs.Parts.{within}
+use Rattle.rooms.proofs.Filling.{row-part, laid-outside}
 use Rattle.rooms.proofs.Layering.{layer-none, layer-low, layer-best, more-row, layers-lay}
 
 -- whether two layers are alike, as the code finds it

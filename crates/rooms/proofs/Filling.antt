@@ -2,16 +2,17 @@
 use mathlib.Core.Path.{_≡_, refl, sym, ap, _∙_, subst}
 use mathlib.Core.Bool.{true, false, false≢true, or-true}
 use mathlib.Core.Logic.{_⊎_, ⊎-elim}
-use mathlib.Core.List.{List, [], _∷_, _++_}
-use Prim.Native.Nat.{ℕ, zero, suc, _+_, _*_, _-_, _≤_, _<_}
+use mathlib.Core.List.{List, _++_}
+use Prim.Native.Nat.{ℕ, suc, _+_, _*_, _-_, _≤_, _<_}
 use native.Mathlib.Omega.{arith}
 use native.Mathlib.Decide.{ℕ-discrete, decLt}
 use lib.Dec.{ltb}
 use lib.ListN.{length, getD, set, replicate, take, drop, length-append, length-drop, length-replicate, getD-replicate, List·getD-append}
-use lib.Seq.{getD-set-same, getD-set-other, getD-take, getD-drop, getD-append-add, drop-at, length-take-le, ext-getD}
+use lib.Seq.{getD-set-same, getD-set-other, getD-take, getD-drop, getD-append-add, length-take-le, ext-getD}
 use borrow.Author.Tests.{lt-ltb, le-ltb}
-use borrow.Rule.Slice.PartMut.{putMid, midOf, postOf, mid-len, take-put, drop-put}
+use borrow.Rule.Slice.PartMut.{putMid, midOf, mid-len}
 use Rattle.meaning.specs.Bounds.{top}
+use Rattle.ranks.proofs.Parts.{part-at, row-in, row-other}
 use Rattle.rooms.specs.Tables.{blanked, copied, Filled, Low, Matches, LowBehind, Laid, Outside}
 
 pub filled-none : (f : ℕ → ℕ) (was : List ℕ) → Filled f 0 was was
@@ -74,12 +75,6 @@ pub low-fits : {x y : ℕ} → x ≤ suc top → y ≤ suc top → x + y < 42949
 unfolding top
 low-fits h k = omega arith
 
--- what is said of where a list ends makes no difference within
-pub within : (xs : List ℕ) (k d e : ℕ) → k < length xs → getD xs k d ≡ getD xs k e
-within [] k d e h = absurd (omega arith)
-within (x ∷ xs) zero d e h = refl
-within (x ∷ xs) (suc k) d e h = within xs k d e (omega arith)
-
 -- what a filled row is: one content
 pub filled-one : (f : ℕ → ℕ) (n : ℕ) (was a b : List ℕ) → length a ≡ length b → Filled f n was a → Filled f n was b → a ≡ b
 filled-one f n was a b e r s = ext-getD 0 a b e (λ k h. go k (decLt k n))
@@ -139,35 +134,12 @@ module _ (n : ℕ) (from : List ℕ) where
       (filled-one (λ j. getD from j 0) n was is (take n from ++ drop n was) (e ∙ sym (front-long n (take n from) was (length-take-le n from h) l)) (filled-end f a b) (copied-front was h))
 
 -- a row of a table, of which each layer, value or slot has one
-pub part-at : (xs : List ℕ) (at v k q : ℕ) → at ≡ v * 64 → q < k → getD (take k (drop at xs)) q 0 ≡ getD xs (v * 64 + q) 0
-part-at xs at v k q e h = getD-take k (drop at xs) q 0 h ∙ (getD-drop at xs q 0 ∙ rw e)
-
 pub row-part : (xs : List ℕ) (v k q : ℕ) → q < k → getD (take k (drop (v * 64) xs)) q 0 ≡ getD xs (v * 64 + q) 0
-row-part xs v k q = part-at xs (v * 64) v k q refl
-
--- a middle part that was lent and came back: what stands before it, in it and behind it
-module _ (a k : ℕ) (xs ys : List ℕ) (h : a ≤ length xs) where
-  pub put-before : (i : ℕ) → i < a → getD (putMid a k xs ys) i 0 ≡ getD xs i 0
-  put-before i l = sym (getD-take a (putMid a k xs ys) i 0 l) ∙ (ap (λ (z : List ℕ). getD z i 0) (take-put a k xs ys h) ∙ getD-take a xs i 0 l)
-
-  pub put-in : (i : ℕ) → i < length ys → getD (putMid a k xs ys) (a + i) 0 ≡ getD ys i 0
-  put-in i l =
-      sym (getD-drop a (putMid a k xs ys) i 0)
-      ∙ (ap (λ (z : List ℕ). getD z i 0) (drop-at (take a xs) (ys ++ postOf a k xs) a (length-take-le a xs h)) ∙ List·getD-append ys (postOf a k xs) 0 i l)
-
-pub put-behind : (a e : ℕ) (xs ys : List ℕ) → a ≤ e → e ≤ length xs → length ys ≡ e - a → (i : ℕ) → e ≤ i → getD (putMid a (e - a) xs ys) i 0 ≡ getD xs i 0
-put-behind a e xs ys h k d i l =
-    let j : e + (i - e) ≡ i = omega arith in
-    subst (λ (z : ℕ). getD (putMid a (e - a) xs ys) z 0 ≡ getD xs z 0) j
-    (sym (getD-drop e (putMid a (e - a) xs ys) (i - e) 0) ∙ (ap (λ (z : List ℕ). getD z (i - e) 0) (drop-put a e xs ys h k d) ∙ getD-drop e xs (i - e) 0))
+row-part xs v k q = part-at xs (v * 64) v 64 k q refl
 
 -- a row of the rows behind a layer
 pub low-part : {n i last : ℕ} {work : List ℕ} (j : ℕ) → n ≤ 64 → i < j → j ≤ last → LowBehind n i last work → Low n (take (j * 64 + 64 - j * 64) (drop (j * 64) work))
 low-part {work = work} j h k m l = record { low = λ q d. omega (arith, row-part work j (j * 64 + 64 - j * 64) q (omega arith), l .low j q k m d) }
-
--- how long a row is that came back
-pub part-long : (at : ℕ) (xs ys : List ℕ) → at + 64 ≤ length xs → length ys ≡ length (midOf at (at + 64 - at) xs) → length ys ≡ 64
-part-long at xs ys h e = e ∙ (mid-len at (at + 64) xs h ∙ omega arith)
 
 -- a row of a table that was copied
 pub part-copied : {n : ℕ} (at : ℕ) (xs : List ℕ) {was is : List ℕ} → n ≤ 64 → at + 64 ≤ length xs → n ≤ length was → is ≡ copied n (take (at + 64 - at) (drop at xs)) was
@@ -177,23 +149,15 @@ part-copied {n} at xs h l m e = copied-filled n (take (at + 64 - at) (drop at xs
 -- a row that was lent as a middle part and filled
 pub laid-put : {g : ℕ → ℕ} {n : ℕ} (i at : ℕ) (xs ys : List ℕ) → n ≤ 64 → at ≡ i * 64 → at + 64 ≤ length xs → length ys ≡ length (midOf at (at + 64 - at) xs)
     → Filled g n (midOf at (at + 64 - at) xs) ys → Laid g n i xs (putMid at (at + 64 - at) xs ys)
-laid-put {g} {n} i at xs ys h a l e f = record { row = λ q k. inside q (omega arith) ∙ f .done q k; others = λ j q m d. go j q m d (decLt j i) (decLt i j) }
+laid-put {g} {n} i at xs ys h a l e f = record { row = λ q k. row-in 64 i at xs ys a l e q (omega arith) ∙ f .done q k; others = λ j q m d. go j q m d (ℕ-discrete j i) }
   where
-    inside : (q : ℕ) → q < 64 → getD (putMid at (at + 64 - at) xs ys) (i * 64 + q) 0 ≡ getD ys q 0
-    inside q m =
-        let d : at + q ≡ i * 64 + q = omega arith in
-        subst (λ (z : ℕ). getD (putMid at (at + 64 - at) xs ys) z 0 ≡ getD ys q 0) d (put-in at (at + 64 - at) xs ys (omega arith) q (omega (arith, part-long at xs ys l e)))
-
     out : (q : ℕ) → (q < n → ⊥) → Dec (q < n) → n ≤ q
     out q d (yes k) = absurd (d k)
     out q d (no k) = omega arith
 
-    go : (j q : ℕ) → q < 64 → (j ≡ i → q < n → ⊥) → Dec (j < i) → Dec (i < j) → getD (putMid at (at + 64 - at) xs ys) (j * 64 + q) 0 ≡ getD xs (j * 64 + q) 0
-    go j q m d (yes b) r = put-before at (at + 64 - at) xs ys (omega arith) (j * 64 + q) (omega arith)
-    go j q m d (no b) (yes r) = put-behind at (at + 64) xs ys (omega arith) l (part-long at xs ys l e ∙ omega arith) (j * 64 + q) (omega arith)
-    go j q m d (no b) (no r) =
-        let s : j ≡ i = omega arith in
-        rw s (inside q m ∙ (f .left q (out q (d s) (decLt q n)) ∙ part-at xs at i (at + 64 - at) q a (omega arith)))
+    go : (j q : ℕ) → q < 64 → (j ≡ i → q < n → ⊥) → Dec (j ≡ i) → getD (putMid at (at + 64 - at) xs ys) (j * 64 + q) 0 ≡ getD xs (j * 64 + q) 0
+    go j q m d (no s) = row-other 64 i at xs ys a l e j q s m
+    go j q m d (yes s) = rw s (row-in 64 i at xs ys a l e q m ∙ (f .left q (out q (d s) (decLt q n)) ∙ part-at xs at i 64 (at + 64 - at) q a (omega arith)))
 
 -- what is not written
 pub laid-outside : {g : ℕ → ℕ} {n i rows : ℕ} {was is : List ℕ} → i < rows → Laid g n i was is → Outside n rows was is

@@ -12,8 +12,9 @@ use borrow.Rule.Slice.PartMut.{putMid, midOf, same-len-mid}
 use Rattle.kinds.specs.Bits.{bit}
 use Rattle.meaning.specs.Meaning.{Place, place, places}
 use Rattle.meaning.specs.Bounds.{top}
-use Rattle.rooms.specs.Tables.{Filled, choices, best, need, needAt, roomsBy, capped, before, Frame, room, layer, Layers, LowBehind, Laid, Low, Needed}
-use Rattle.rooms.proofs.Filling.{within, row-part, laid-put}
+use Rattle.rooms.specs.Tables.{Filled, choices, best, need, needAt, roomsBy, capped, before, Frame, room, layer, Layers, LowBehind, Laid, Low, Needed, Bare}
+use Rattle.ranks.proofs.Parts.{within}
+use Rattle.rooms.proofs.Filling.{row-part, laid-put}
 
 -- a row that was filled as a middle part, and then settled there
 pub laid-settled : {g : ℕ → ℕ} {n : ℕ} (i least : ℕ) (work : List ℕ) {ys zs needs now : List ℕ} → n ≤ 64 → i * 64 + 64 ≤ length work
@@ -71,6 +72,14 @@ drop-all [] ls e = refl
 drop-all (m ∷ ms) [] e = absurd (omega arith)
 drop-all (m ∷ ms) (l ∷ ls) e = drop-all ms ls (omega arith)
 
+-- a row of needs that was filled anew: none still for what is no state
+pub bare-fill : {f : ℕ → ℕ} {n : ℕ} {needs now : List ℕ} → length now ≡ length needs → Bare n needs → Filled f n needs now → Bare n now
+bare-fill {n = n} {needs} {now} e b f = record { none = λ k h. go k h (decLt k (length now)) }
+  where
+    go : (k : ℕ) → n ≤ k → Dec (k < length now) → needAt now k ≡ suc top
+    go k h (yes l) = within now k (suc top) 0 l ∙ (f .left k h ∙ (within needs k 0 (suc top) (omega arith) ∙ b .none k h))
+    go k h (no l) = List·getD-eq-default now (suc top) {n = k} (omega arith)
+
 module _ (f : Frame) (ms ls : List ℕ) (same : length ls ≡ length ms) where
   -- no room at what is no state
   pub layer-none : (i q : ℕ) → f .states ≤ q → layer f ms ls i q ≡ 0
@@ -95,12 +104,8 @@ module _ (f : Frame) (ms ls : List ℕ) (same : length ls ≡ length ms) where
 
   needed-fill : {g : ℕ → ℕ} {needs now : List ℕ} (i : ℕ) → f .states ≤ length now → length now ≡ length needs → ((k : ℕ) → f .states ≤ k → needAt needs k ≡ suc top)
       → Filled g (f .states) needs now → ((q : ℕ) → q < f .states → g q ≡ need (layer f ms ls i q)) → Needed (layer f ms ls i) (f .states) now
-  needed-fill {needs = needs} {now} i l m a b e =
-      record { done = λ q d. within now q (suc top) 0 (omega arith) ∙ (b .done q d ∙ e q d); none = λ q d. go q d (decLt q (length now)) }
-    where
-      go : (q : ℕ) → f .states ≤ q → Dec (q < length now) → needAt now q ≡ suc top
-      go q d (yes h) = within now q (suc top) 0 h ∙ (b .left q d ∙ (within needs q 0 (suc top) (omega arith) ∙ a q d))
-      go q d (no h) = List·getD-eq-default now (suc top) {n = q} (omega arith)
+  needed-fill {now = now} i l m a b e =
+      record { done = λ q d. within now q (suc top) 0 (omega arith) ∙ (b .done q d ∙ e q d); none = bare-fill m (record { none = a }) b .none }
 
   -- the last layer
   last-row : (least q : ℕ) → least ≡ top - before ls (length ms) → q < f .states → max (cond (bit (f .accepting) q) 0 (suc top)) least ≡ need (layer f ms ls (length ms) q)

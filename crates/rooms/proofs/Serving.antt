@@ -1,21 +1,21 @@
 -- What the rows of arcs give is what all values together need.
-use mathlib.Core.Path.{_≡_, sym, ap, _∙_, subst}
+use mathlib.Core.Path.{_≡_, _∙_}
 use mathlib.Core.Bool.{true}
-use mathlib.Core.Logic.{_⊎_, ⊎-elim}
-use mathlib.Core.List.{List, []}
+use mathlib.Core.Logic.{⊎-elim}
+use mathlib.Core.List.{List}
 use Prim.Native.Nat.{ℕ, suc, _+_, _-_, _≤_, _<_}
 use native.Mathlib.Omega.{arith}
 use native.Mathlib.Decide.{decLt}
 use lib.ListN.{length, getD}
 use Rattle.kinds.specs.Bits.{width, bit}
 use Rattle.meaning.specs.Bounds.{mostStates, mostValues, tableSize, top}
-use Rattle.meaning.specs.Meaning.{Arcs, target, cost}
-use Rattle.ranks.specs.Rows.{out, along, Ranked, costIn, noArc}
+use Rattle.meaning.specs.Meaning.{target, cost}
+use Rattle.ranks.specs.Rows.{out, along}
 use Rattle.ranks.proofs.Least.{along-low, along-some, along-below, top-low, out-in, out-of}
 use Rattle.ranks.specs.Rows.{Pulls}
-use Rattle.rooms.specs.Tables.{Net, Same, choices, best, need, needAt, roomsBy, Low, Bare, Serves, Filled}
+use Rattle.rooms.specs.Tables.{Net, choices, best, need, needAt, roomsBy, Low, Bare, Serves, Filled}
 use Rattle.rooms.proofs.Rooms.{best-most, best-some, choice-in, in-choice}
-use Rattle.rooms.proofs.Filling.{within}
+use Rattle.ranks.proofs.Parts.{within}
 
 module _ {net : Net} {qs vs : ℕ} {arcs : List ℕ} (s : Serves net qs vs arcs) (few : qs ≤ mostStates) (m : ℕ) (full : (v : ℕ) → v < vs → bit m v ≡ true) (needs : List ℕ)
     (long : qs ≤ length needs) (bare : Bare qs needs) (q : ℕ) (h : q < qs) where

@@ -4,7 +4,8 @@ use lib.ListN.{length, length-set, getD}
 use Rattle.meaning.specs.Bounds.{top}
 use Rattle.rooms.specs.Tables.{Filled, roomsBy}
 use Rattle.reach.specs.Looks.{struck}
-use Rattle.rooms.proofs.Filling.{within, filled-none, filled-more, filled-end}
+use Rattle.ranks.proofs.Parts.{within}
+use Rattle.rooms.proofs.Filling.{filled-none, filled-more, filled-end}
 use native.Mathlib.Omega.{arith}
 use borrow.Author.Needs.{needs}
 use Rattle.reach.proofs.forward.advance.Statement.{statement}

@@ -3,7 +3,8 @@ use Prim.Native.Nat.{suc, _≤_}
 use lib.ListN.{getD}
 use Rattle.meaning.specs.Bounds.{top}
 use Rattle.rooms.specs.Tables.{turned}
-use Rattle.rooms.proofs.Filling.{most-top, low-fits, within}
+use Rattle.ranks.proofs.Parts.{within}
+use Rattle.rooms.proofs.Filling.{most-top, low-fits}
 use borrow.Author.Needs.{needs}
 use Rattle.rooms.proofs.backward.need_by.Statement.{statement}
 use Rattle.rooms.proofs.backward.need_by.Tie as tie
