@@ -4,7 +4,9 @@
      half     each value with odds of one half, the values of one accepted roster always
      bind     full masks; each limit is what a cheapest roster has spent by then, and 300 more (on W, whose costs are 0 to 2, 2 more)
      both     half's masks and limits made likewise
-     eighth   at one place in eight one value alone, that of an accepted roster; else full masks */
+     eighth   at one place in eight one value alone, that of an accepted roster; else full masks
+     single   at every place one value alone, that of an accepted roster
+     few      at every place one to three values, that of an accepted roster among them */
 #include "peers/filt.h"
 #include <stdio.h>
 #include <stdlib.h>
@@ -89,21 +91,22 @@ static void draw(uint32_t n, int cheapest, uint32_t *spent)
 static int make_input(uint32_t n, const char *input)
 {
     int halved = !strcmp(input, "half") || !strcmp(input, "both"), bound = !strcmp(input, "bind") || !strcmp(input, "both");
-    int eighth = !strcmp(input, "eighth");
+    int eighth = !strcmp(input, "eighth"), single = !strcmp(input, "single"), few = !strcmp(input, "few");
     static uint32_t spent[PLACES];
     for (uint32_t i = 0; i < n; i++) { limits[i] = 366000; masks[i] = (1u << rules.V) - 1; }
-    if (halved || eighth) {
+    if (halved || eighth || single || few) {
         draw(n, 0, spent);
         for (uint32_t i = 0; i < n; i++) {
             if (halved) masks[i] = drawn(1u << rules.V) | 1u << roster[i];
-            if (eighth && i % 8 == 3) masks[i] = 1u << roster[i];
+            if (single || few || (eighth && i % 8 == 3)) masks[i] = 1u << roster[i];
+            for (uint32_t more = few ? drawn(3) : 0; more > 0; more--) masks[i] |= 1u << drawn(rules.V);
         }
     }
     if (bound) {
         draw(n, 1, spent);
         for (uint32_t i = 0; i < n; i++) limits[i] = spent[i] + (rules.Q == 6 ? 2 : 300);
     }
-    return halved || bound || eighth || !strcmp(input, "full");
+    return halved || bound || eighth || single || few || !strcmp(input, "full");
 }
 
 int main(int argc, char **argv)

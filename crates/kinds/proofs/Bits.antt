@@ -7,10 +7,9 @@ use native.Mathlib.Decide.{ℕ-discrete, decLt}
 use native.Mathlib.Omega.{arith}
 use lib.Bits.{bitAnd, bitOr, and-shr, or-shr, and-mod, or-mod, and-mask, and-lt, or-lt}
 use lib.Pow.{pow-pos, pow-mono, pow-lt, high, shl-exact}
-use native.Mathlib.Numerals.{add-one}
 use borrow.Author.Tests.{lt-ltb, le-ltb, eq-eqb, ne-eqb}
 use lib.Dec.{eqb, ltb, leb·suc-suc, leb·zero, eqb·suc-suc, eqb·zero-suc, eqb·suc-zero, leb·suc-zero}
-use Rattle.kinds.specs.Bits.{bit, maskOf, firstFrom}
+use Rattle.kinds.specs.Bits.{bit, maskOf}
 
 -- a shift and an `and` with 1
 pub bit-test : (m v : ℕ) → eqb (bitAnd (m / 2 ^ v) 1) 1 ≡ bit m v
@@ -170,22 +169,6 @@ put-mask w m v h k =
 pub put-none : (w m v : ℕ) → m < 2 ^ w → w ≤ v → m ≡ maskOf (λ u. bit m u || eqb u v) w
 put-none w m v h k =
     mask-is (λ u. bit m u || eqb u v) w m h (λ u l. sym (ap (λ (b : Bool). bit m u || b) (ne-eqb u v (λ e. omega arith)) ∙ or-false (bit m u)))
-
--- the first number that is picked
-pub first-here : (f : ℕ → Bool) (i n : ℕ) → 0 < n → f i ≡ true → firstFrom f i n ≡ i
-unfolding firstFrom
-first-here f i zero h e = absurd (omega arith)
-first-here f i (suc n) h e = rw e
-
-pub first-later : (f : ℕ → Bool) (i n m : ℕ) → n ≡ m + 1 → f i ≡ false → firstFrom f i n ≡ firstFrom f (i + 1) m
-unfolding firstFrom
-first-later f i zero m h e = absurd (omega arith)
-first-later f i (suc n) m h e = let k : n ≡ m = omega arith in rw (e, add-one i, k)
-
-pub first-end : (f : ℕ → Bool) (i n : ℕ) → n ≡ 0 → firstFrom f i n ≡ i
-unfolding firstFrom
-first-end f i zero h = refl
-first-end f i (suc n) h = absurd (omega arith)
 
 -- a number below 2 ^ k: nothing is left above bit k, and every number of w bits is one, where k is at least w
 pub none-above : (m k : ℕ) → eqb (m / 2 ^ k) 0 ≡ ltb m (2 ^ k)

@@ -1,2 +1,3 @@
 pub mod Bits
+pub mod Lowest
 pub mod Unique

@@ -3,7 +3,7 @@ use mathlib.Core.Path.{_≡_, sym, ap, _∙_}
 use mathlib.Core.Bool.{Bool, _&&_, _||_}
 use Prim.Native.Nat.{ℕ, _^_, min}
 use lib.Dec.{eqb, ltb}
-use Rattle.kinds.specs.Bits.{width, bit, maskOf, smallestOf}
+use Rattle.kinds.specs.Bits.{width, bit, maskOf, smallestOf, restOf}
 use Rattle.kinds.specs.declared.Mask.{Mask}
 use Rattle.kinds.specs.declared.Value.{Value}
 
@@ -34,3 +34,6 @@ put-unique m v = one _
 
 pub smallest-unique : (m : Mask) (r s : Value) → r .0 ≡ smallestOf (m .0) → s .0 ≡ smallestOf (m .0) → r ≡ s
 smallest-unique m r s p q = ap (λ (n : ℕ). record { 0 = n }) (p ∙ sym q)
+
+pub rest-unique : (m r s : Mask) → r .0 ≡ restOf (m .0) → s .0 ≡ restOf (m .0) → r ≡ s
+rest-unique m = one _

@@ -1,5 +1,5 @@
 -- The bits of a number, and masks made of them.
-use mathlib.Core.Bool.{Bool, cond}
+use mathlib.Core.Bool.{Bool, cond, not, _&&_}
 use Prim.Native.Nat.{ℕ, zero, suc, _+_, _*_, _/_, _%_, _^_}
 use lib.Dec.{eqb}
 
@@ -24,3 +24,7 @@ firstFrom f i (suc n) = cond (f i) i (firstFrom f (suc i) n)
 -- the smallest value of a mask, the width of none
 unfoldable pub smallestOf : ℕ → ℕ
 smallestOf m = firstFrom (bit m) 0 width
+
+-- the mask of all its values but the smallest
+unfoldable pub restOf : ℕ → ℕ
+restOf m = maskOf (λ u. bit m u && not (eqb u (smallestOf m))) width

@@ -3,7 +3,7 @@ ghost use mathlib.Core.Path.{_≡_};
 ghost use mathlib.Core.Bool.{_&&_, _||_};
 ghost use Prim.Native.Nat.{_^_, min};
 ghost use lib.Dec.{eqb, ltb};
-ghost use Rattle.kinds.specs.Bits.{width, bit, maskOf, smallestOf};
+ghost use Rattle.kinds.specs.Bits.{width, bit, maskOf, smallestOf, restOf};
 
 // A state and a value are two kinds, so that one can't index where the other is meant.
 pub struct State(pub u8);
@@ -81,13 +81,17 @@ impl Mask {
     pub fn smallest(self) -> Value
         ensures { λ r. ⌜ r .0 ≡ smallestOf (self .0) ⌝ }
     {
-        let mut v: u8 = 0;
-        while v < Mask::WIDTH {
-            if self.has(Value(v)) {
-                return Value(v);
-            }
-            v += 1;
+        let zeros = u16::trailing_zeros(self.0) as u8;
+        Value(zeros)
+    }
+
+    // All values but the smallest; none, where there is none.
+    pub fn rest(self) -> Mask
+        ensures { λ r. ⌜ r .0 ≡ restOf (self .0) ⌝ }
+    {
+        if self.0 == Mask::EMPTY.0 {
+            return self;
         }
-        Value(Mask::WIDTH)
+        Mask(self.0 & (self.0 - 1))
     }
 }

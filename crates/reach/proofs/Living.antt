@@ -1,23 +1,24 @@
 -- The live states of a front as bits, and the search from one live state to the next: a dead state joins nowhere.
 use mathlib.Core.Path.{_≡_, refl, sym, ap, _∙_}
-use mathlib.Core.Bool.{Bool, true, false, _&&_, _||_, and-eq-true-iff, or-false, false≢true}
+use mathlib.Core.Bool.{Bool, true, false, _||_, and-eq-true-iff, or-false, false≢true}
 use mathlib.Core.List.{List}
-use Prim.Native.Nat.{ℕ, zero, suc, _+_, _-_, _*_, _/_, _%_, _^_, _≤_, _<_}
+use Prim.Native.Nat.{ℕ, zero, suc, _+_, _-_, _*_, _%_, _^_, _≤_, _<_}
 use native.Mathlib.Nat.{pow-suc}
 use native.Mathlib.Numerals.{add-one}
 use native.Mathlib.Omega.{arith}
 use native.Mathlib.Decide.{ℕ-discrete, decLt}
 use lib.Bits.{bitAnd, bitOr, or-lt}
-use lib.Count.{trailingZeros, under}
+use lib.Count.{trailingZeros}
 use lib.Dec.{ltb, eqb}
 use lib.ListN.{getD, take, drop}
 use lib.Pow.{pow-lt}
 use borrow.Author.Tests.{eq-eqb, ne-eqb, lt-ltb, le-ltb}
 use Rattle.kinds.specs.Bits.{bit, maskOf}
-use Rattle.kinds.proofs.Bits.{bit-zero, bit-suc, bit-and, bit-or, bit-none, bit-pow, bit-mask, bit-above, mask-is, mask-lt, shl-one}
+use Rattle.kinds.proofs.Bits.{bit-and, bit-or, bit-none, bit-pow, bit-mask, bit-above, mask-is, mask-lt, shl-one}
+use Rattle.kinds.proofs.Lowest.{low-set, Sought, sought-more}
 use Rattle.meaning.specs.Bounds.{top}
 use Rattle.rooms.specs.Tables.{down, Net, roomsBy, Low}
-use Rattle.reach.specs.Looks.{joins, liveOf, LiveHeld, LowRows}
+use Rattle.reach.specs.Looks.{leadsOn, joins, liveOf, LiveHeld, LowRows}
 use Rattle.rooms.proofs.Filling.{row-part}
 
 -- state by state: the mask of the states that f picks
@@ -58,45 +59,20 @@ module _ (front : List ℕ) where
   pub held-none : (n live : ℕ) → live ≡ 0 → LiveHeld n front live
   held-none n live e = record { is = λ h. absurd (omega arith) }
 
--- the lowest bit of a number, and the number with that bit taken off
-low-set : (k n : ℕ) → 0 < n → n < 2 ^ k → bit n (trailingZeros k n) ≡ true
-unfolding trailingZeros
-low-set zero n h l = absurd (omega arith)
-low-set (suc k) n h l = go (n % 2) refl (omega arith) (λ e. low-set k (n / 2) (omega arith) (omega (arith, pow-suc 2 k)))
-  where
-    go : (r : ℕ) → n % 2 ≡ r → r < 2 → (n % 2 ≡ 0 → bit (n / 2) (trailingZeros k (n / 2)) ≡ true) → bit n (under r (trailingZeros k (n / 2))) ≡ true
-    go zero e b ih = bit-suc n (trailingZeros k (n / 2)) ∙ ih e
-    go (suc zero) e b ih = bit-zero n ∙ rw e
-    go (suc (suc r)) e b ih = absurd (omega arith)
-
-rest-set : (k n u : ℕ) → 0 < n → n < 2 ^ k → bit n u ≡ true → (u ≡ trailingZeros k n → ⊥) → bit (n - 1) u ≡ true
-unfolding trailingZeros
-rest-set zero n u h l e d = absurd (omega arith)
-rest-set (suc k) n u h l e d = go u (n % 2) refl (omega arith) e d (λ u p e d. rest-set k (n / 2) u (omega arith) (omega (arith, pow-suc 2 k)) e d)
-  where
-    go : (u r : ℕ) → n % 2 ≡ r → r < 2 → bit n u ≡ true → (u ≡ under r (trailingZeros k (n / 2)) → ⊥)
-        → ((u : ℕ) → n % 2 ≡ 0 → bit (n / 2) u ≡ true → (u ≡ trailingZeros k (n / 2) → ⊥) → bit (n / 2 - 1) u ≡ true) → bit (n - 1) u ≡ true
-    go zero zero p b e d ih = absurd (false≢true (sym (bit-zero n ∙ rw p) ∙ e))
-    go (suc u) zero p b e d ih =
-        let half : (n - 1) / 2 ≡ n / 2 - 1 = omega arith in
-        bit-suc (n - 1) u ∙ rw half (ih u p (sym (bit-suc n u) ∙ e) (λ x. d (ap suc x)))
-    go zero (suc r) p b e d ih = absurd (d refl)
-    go (suc u) (suc zero) p b e d ih =
-        let half : (n - 1) / 2 ≡ n / 2 = omega arith in
-        bit-suc (n - 1) u ∙ rw half (sym (bit-suc n u) ∙ e)
-    go (suc u) (suc (suc r)) p b e d ih = absurd (omega arith)
-
 -- from live state to live state: those of `left` are still to be looked at, and no other state joins
 module _ (a : Net) (front needs : List ℕ) (v n : ℕ) where
+  abbrev joining : ℕ → Bool
+  joining q = leadsOn a needs q (getD front q 0) v
+
   pub record Looked (left : ℕ) : Type 0 where
     pub few : (q : ℕ) → bit left q ≡ true → q < n
-    pub none : (q : ℕ) → q < n → bit left q ≡ false → ltb (getD front q 0 + a .fee q v) (roomsBy needs (a .to q v)) ≡ false
+    pub others : Sought joining n left
 
   pub looked-none : (live : ℕ) → live ≡ liveOf n front → Looked live
   unfolding liveOf
   looked-none live e = record {
     few = λ q b. few q b (decLt q n);
-    none = λ q l b. le-ltb _ _ (dead q (a .to q v) (sym (bit-mask (λ q. ltb (getD front q 0) (suc top)) n q l) ∙ (sym (ap (λ (m : ℕ). bit m q) e) ∙ b)));
+    others = record { none = λ q l b. le-ltb _ _ (dead q (a .to q v) (sym (bit-mask (λ q. ltb (getD front q 0) (suc top)) n q l) ∙ (sym (ap (λ (m : ℕ). bit m q) e) ∙ b))) };
   }
     where
       few : (q : ℕ) → bit live q ≡ true → Dec (q < n) → q < n
@@ -113,24 +89,17 @@ module _ (a : Net) (front needs : List ℕ) (v n : ℕ) where
   pub looked-few : {left : ℕ} → Looked left → 0 < left → left < 2 ^ 64 → trailingZeros 64 left < n
   looked-few {left} w h l = w .few (trailingZeros 64 left) (low-set 64 left h l)
 
-  pub looked-more : (left : ℕ) {b : Bool} → Looked left → 0 < left → left < 2 ^ 64
-      → b ≡ ltb (getD front (trailingZeros 64 left) 0 + a .fee (trailingZeros 64 left) v) (roomsBy needs (a .to (trailingZeros 64 left) v)) → b ≡ false → Looked (bitAnd left (left - 1))
+  pub looked-more : (left : ℕ) {b : Bool} → Looked left → 0 < left → left < 2 ^ 64 → b ≡ joining (trailingZeros 64 left) → b ≡ false → Looked (bitAnd left (left - 1))
   looked-more left w h l d f = record {
     few = λ q b. w .few q (and-eq-true-iff (bit left q) _ .0 (sym (bit-and left (left - 1) q) ∙ b) .0);
-    none = λ q k b. none q k (sym (bit-and left (left - 1) q) ∙ b) (bit left q) refl (ℕ-discrete q (trailingZeros 64 left));
+    others = sought-more 64 left h l (w .others) (sym d ∙ f);
   }
-    where
-      none : (q : ℕ) → q < n → (bit left q && bit (left - 1) q) ≡ false → (b : Bool) → bit left q ≡ b → Dec (q ≡ trailingZeros 64 left)
-          → ltb (getD front q 0 + a .fee q v) (roomsBy needs (a .to q v)) ≡ false
-      none q k e false g c = w .none q k g
-      none q k e true g (yes c) = rw c (sym d ∙ f)
-      none q k e true g (no c) = absurd (false≢true (sym e ∙ rw (g, rest-set 64 left q h l g c)))
 
   pub looked-end : {left : ℕ} → left ≡ 0 → Looked left → joins a front needs v n ≡ false
   unfolding joins down
-  looked-end {left} e w = go n (λ q l. w .none q l (rw e (bit-none q)))
+  looked-end {left} e w = go n (λ q l. w .others .none q l (rw e (bit-none q)))
     where
-      go : (k : ℕ) → ((q : ℕ) → q < k → ltb (getD front q 0 + a .fee q v) (roomsBy needs (a .to q v)) ≡ false) → joins a front needs v k ≡ false
+      go : (k : ℕ) → ((q : ℕ) → q < k → joining q ≡ false) → joins a front needs v k ≡ false
       go zero h = refl
       go (suc k) h = rw (h k (omega arith), go k (λ q l. h q (omega arith)))
 

@@ -1,7 +1,7 @@
 -- The looks of the forward pass: state by state along one value, then value by value.
 use mathlib.Core.Path.{_≡_, refl, sym, ap, _∙_}
 use mathlib.Core.Bool.{Bool, true, false, cond, _&&_, _||_, or-false, or-comm}
-use mathlib.Core.List.{List}
+use mathlib.Core.List.{List, [], _∷_}
 use Prim.Native.Nat.{ℕ, zero, suc, _+_, _*_, _^_, _≤_, _<_, min}
 use native.Mathlib.Numerals.{add-one}
 use native.Mathlib.Omega.{arith}
@@ -14,11 +14,10 @@ use Rattle.kinds.specs.Bits.{width, bit, maskOf}
 use Rattle.kinds.proofs.Bits.{bit-mask, bit-none, mask-is, mask-lt}
 use Rattle.meaning.specs.Bounds.{top}
 use Rattle.meaning.proofs.Lists.{in-any}
-use Rattle.rooms.specs.Tables.{down, choices, Net, turned, roomsBy}
+use Rattle.rooms.specs.Tables.{down, Net, turned, roomsBy}
 use Rattle.reach.specs.Looks.{along, looks, reach, marks, arrive, joins, lowest, Pushed, Swept, Keeps}
 use Rattle.rooms.proofs.Rooms.{in-down}
 use Rattle.ranks.proofs.Parts.{part-at}
-use Rattle.rooms.proofs.Raising.{choices-none, choices-more, choices-skip}
 use Rattle.reach.proofs.Reach.{reach-join, marks-join}
 
 -- state by state: the least costs
@@ -87,49 +86,32 @@ module _ (ts cs : List ℕ) (v at k : ℕ) (e : at ≡ v * 64) (front : List ℕ
   arrive-is most t (suc n) h = rw (arrive-is most t n (omega arith), part-at ts at v 64 k n e (omega arith), part-at cs at v 64 k n e (omega arith))
 
 -- value by value: the least costs
-module _ (ts cs : List ℕ) (qs m : ℕ) (front : List ℕ) where
-  pub swept-none : (was : List ℕ) → Swept (turned ts cs) qs (choices 0 m) front was was
+module _ (ts cs : List ℕ) (qs : ℕ) (front : List ℕ) where
+  pub swept-none : (was : List ℕ) → Swept (turned ts cs) qs [] front was was
   unfolding reach
-  swept-none was = record { costs = λ t. rw choices-none }
+  swept-none was = record { costs = λ t. refl }
 
-  pub swept-more : (v at k : ℕ) {was mid is : List ℕ} → bit m v ≡ true → at ≡ v * 64 → qs ≤ k → Swept (turned ts cs) qs (choices v m) front was mid
-      → Pushed (take k (drop at ts)) (take k (drop at cs)) front qs mid is
-      → {out : List ℕ} → out ≡ is → Swept (turned ts cs) qs (choices (v + 1) m) front was out
-  swept-more v at k {was} {mid} {is} e r h s p {out} d =
-      rw d (record {
-        costs = λ t. rw (choices-more v m e) (p .right t ∙ (arrive-is ts cs v at k r front (getD mid t 0) t qs h
-            ∙ (ap (λ (b : ℕ). reach (turned ts cs) (λ q. getD front q 0) b t (along qs v)) (s .costs t)
-            ∙ sym (reach-join (turned ts cs) (λ q. getD front q 0) (getD was t 0) t (along qs v) (looks qs (choices v m))))));
-      })
-
-  pub swept-skip : (v : ℕ) {was mid : List ℕ} → bit m v ≡ false → Swept (turned ts cs) qs (choices v m) front was mid
-      → {out : List ℕ} → out ≡ mid → Swept (turned ts cs) qs (choices (v + 1) m) front was out
-  swept-skip v e s d = rw (choices-skip v m e, d) s
-
-  pub swept-end : {v vs : ℕ} {was is : List ℕ} → v ≤ vs → vs ≤ v → Swept (turned ts cs) qs (choices v m) front was is → Swept (turned ts cs) qs (choices vs m) front was is
-  swept-end {v} {vs} h k s = let e : v ≡ vs = omega arith in rw e at s
+  pub swept-more : (v at k : ℕ) (us : List ℕ) {was mid is : List ℕ} → at ≡ v * 64 → qs ≤ k → Pushed (take k (drop at ts)) (take k (drop at cs)) front qs mid is
+      → Swept (turned ts cs) qs us front was mid → Swept (turned ts cs) qs (v ∷ us) front was is
+  swept-more v at k us {was} {mid} {is} r h p s = record {
+    costs = λ t. p .right t ∙ (arrive-is ts cs v at k r front (getD mid t 0) t qs h
+        ∙ (ap (λ (b : ℕ). reach (turned ts cs) (λ q. getD front q 0) b t (along qs v)) (s .costs t)
+        ∙ sym (reach-join (turned ts cs) (λ q. getD front q 0) (getD was t 0) t (along qs v) (looks qs us))));
+  }
 
 -- value by value: those that are kept
-module _ (a : Net) (qs m : ℕ) (front needs : List ℕ) where
-  pub keeps-none : Keeps a qs (choices 0 m) front needs 0
+module _ (a : Net) (qs : ℕ) (front needs : List ℕ) where
+  pub keeps-none : Keeps a qs [] front needs 0
   unfolding marks
-  keeps-none = record { values = λ v h. rw choices-none (bit-none v); small = omega arith }
+  keeps-none = record { values = λ v h. bit-none v; small = omega arith }
 
-  pub keeps-more : (v : ℕ) {x y : ℕ} → bit m v ≡ true → Keeps a qs (choices v m) front needs x
-      → y ≡ maskOf (λ u. bit x u || (joins a front needs v qs && eqb u v)) width
-      → {z : ℕ} → z ≡ y → Keeps a qs (choices (v + 1) m) front needs z
-  keeps-more v {x} {y} e s z f =
+  pub keeps-more : (v : ℕ) (us : List ℕ) {x y : ℕ} → y ≡ maskOf (λ u. bit x u || (joins a front needs v qs && eqb u v)) width → Keeps a qs us front needs x → Keeps a qs (v ∷ us) front needs y
+  keeps-more v us {x} {y} z s =
       let on : Bool = joins a front needs v qs in
-      rw f (record {
-        values = λ u l. rw (choices-more v m e) (ap (λ (n : ℕ). bit n u) z ∙ (bit-mask (λ u. bit x u || (on && eqb u v)) width u l
+      record {
+        values = λ u l. ap (λ (n : ℕ). bit n u) z ∙ (bit-mask (λ u. bit x u || (on && eqb u v)) width u l
             ∙ (or-comm (bit x u) _
             ∙ (rw (joins-is a front needs v u qs, s .values u l)
-            (sym (marks-join a (roomsBy needs) (λ q. getD front q 0) u (along qs v) (looks qs (choices v m))))))));
+            (sym (marks-join a (roomsBy needs) (λ q. getD front q 0) u (along qs v) (looks qs us))))));
         small = rw z (mask-lt (λ u. bit x u || (on && eqb u v)) width);
-      })
-
-  pub keeps-skip : (v : ℕ) {x : ℕ} → bit m v ≡ false → Keeps a qs (choices v m) front needs x → {z : ℕ} → z ≡ x → Keeps a qs (choices (v + 1) m) front needs z
-  keeps-skip v e s f = rw (choices-skip v m e, f) s
-
-  pub keeps-end : {v vs x : ℕ} → v ≤ vs → vs ≤ v → Keeps a qs (choices v m) front needs x → Keeps a qs (choices vs m) front needs x
-  keeps-end {v} {vs} h k s = let e : v ≡ vs = omega arith in rw e at s
+      }

@@ -3,21 +3,23 @@ use mathlib.Core.Path.{_≡_, refl, sym, ap, _∙_, subst}
 use mathlib.Core.Bool.{Bool, true, false, and-eq-true-iff, false≢true}
 use mathlib.Core.List.{List, [], _∷_, _++_, map, append-assoc, append-nil}
 use mathlib.Core.List.{List·Memᴰ as In, List·Memᴰ·not-nil as not-nil}
-use Prim.Native.Nat.{ℕ, suc, _+_, _*_, _-_, _≤_, _<_}
+use Prim.Native.Nat.{ℕ, suc, _+_, _*_, _-_, _^_, _≤_, _<_}
 use native.Mathlib.Numerals.{add-one}
 use native.Mathlib.Omega.{arith}
-use native.Mathlib.Decide.{ℕ-discrete, decLt}
+use native.Mathlib.Decide.{decLt}
 use lib.Dec.{eqb}
 use lib.ListN.{length, getD, set, take, drop}
 use lib.Seq.{take-suc-set, take-all}
 use borrow.Author.Tests.{ltb-true, eq-eqb, ne-eqb}
-use Rattle.kinds.specs.Bits.{bit}
+use Rattle.kinds.specs.Bits.{width, bit, smallestOf, restOf}
+use Rattle.kinds.proofs.Bits.{bit-and}
+use Rattle.kinds.proofs.Lowest.{Sought, sought-more, smallest-is, smallest-least, smallest-some, smallest-set, rest-is, rest-few}
 use Rattle.meaning.specs.Meaning.{Rules, rulesOf, Place, place, places, rosters, allowed}
 use Rattle.meaning.specs.Lists.{those}
 use Rattle.meaning.specs.Bounds.{top}
 use Rattle.meaning.proofs.Members.{roster-in, allowed-length}
 use Rattle.rooms.specs.Tables.{Filled, Net, turned, frame, room, capped, roomsBy, Needed, Bare}
-use Rattle.reach.specs.Looks.{Meant, takeable, Walks}
+use Rattle.reach.specs.Looks.{Meant, leadsOn, takeable, Walks}
 use Rattle.rooms.proofs.Rooms.{Way, room-way}
 use Rattle.rooms.proofs.Layering.{drop-places, drop-all, bare-fill}
 use Rattle.reach.proofs.Needing.{rooms-copied}
@@ -42,19 +44,37 @@ ends r q s [] e y = go (y .roster) (y .allows)
     go (v ∷ w) k = absurd (false≢true k)
 ends r q s (p ∷ ps) e y = let z : _≡_ {A = ℕ} 0 1 = cc in absurd (omega arith)
 
--- values tried one after the other: no value below v can be taken
+-- values tried one after the other, the smallest first: those of `left` are still to be tried, and no other below vs can be taken
+pub record Trying (a : Net) (needs : List ℕ) (m q spent vs left : ℕ) : Type 0 where
+  pub few : left < 2 ^ width
+  pub among : (u : ℕ) → bit left u ≡ true → bit m u ≡ true
+  pub others : Sought (takeable a needs m q spent) vs left
+
+-- no value below v can be taken
 pub record Tried (a : Net) (needs : List ℕ) (m q spent v : ℕ) : Type 0 where
   pub none : (u : ℕ) → u < v → takeable a needs m q spent u ≡ false
 
-pub tried-none : (a : Net) (needs : List ℕ) (m q s : ℕ) → Tried a needs m q s 0
-tried-none a needs m q s = record { none = λ u h. absurd (omega arith) }
+module _ (a : Net) (needs : List ℕ) (m q s vs : ℕ) where
+  pub trying-none : m < 2 ^ width → Trying a needs m q s vs m
+  trying-none h = record { few = h; among = λ u b. b; others = record { none = λ u l b. rw b } }
 
-pub tried-more : (a : Net) (needs : List ℕ) (m q s v : ℕ) {b : Bool} → Tried a needs m q s v → b ≡ takeable a needs m q s v → b ≡ false → Tried a needs m q s (v + 1)
-tried-more a needs m q s v t e f = record { none = λ u h. go u h (ℕ-discrete u v) }
-  where
-    go : (u : ℕ) → u < v + 1 → Dec (u ≡ v) → takeable a needs m q s u ≡ false
-    go u h (yes d) = rw d (sym e ∙ f)
-    go u h (no d) = t .none u (omega arith)
+  module _ {left v : ℕ} (t : Trying a needs m q s vs left) (e : v ≡ smallestOf left) where
+    -- the value that is tried is one of the mask
+    pub trying-takes : v < width → {b : Bool} → b ≡ leadsOn a needs q s v → b ≡ takeable a needs m q s v
+    trying-takes h {b} d = d ∙ rw (t .among v (rw e (smallest-set left (smallest-some left (omega arith)) (t .few))))
+
+    pub trying-more : v < width → {b : Bool} → b ≡ leadsOn a needs q s v → b ≡ false → {r : ℕ} → r ≡ restOf left → Trying a needs m q s vs r
+    trying-more h d f {r} c =
+        let some = smallest-some left (omega arith) in
+        rw (c, ← rest-is left some (t .few)) (record {
+          few = rw (rest-is left some (t .few)) (rest-few left);
+          among = λ u b. t .among u (and-eq-true-iff (bit left u) _ .0 (sym (bit-and left (left - 1) u) ∙ b) .0);
+          others = sought-more width left (omega (arith, some)) (t .few) (t .others) (rw (smallest-is left, ← e) (sym (trying-takes h d) ∙ f));
+        })
+
+    -- none that is smaller can be taken
+    pub trying-tried : (w : ℕ) → w ≤ v → w ≤ vs → Tried a needs m q s w
+    trying-tried w h k = record { none = λ u l. t .others .none u (omega arith) (smallest-least left u (omega arith)) }
 
 pub record Walking (a : Net) (qs vs start spent : ℕ) (ms work was is needs : List ℕ) (q s i : ℕ) : Type 0 where
   pub state : q < qs

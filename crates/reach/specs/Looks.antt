@@ -52,9 +52,13 @@ arrive ts cs front most t zero = most
 arrive ts cs front most t (suc q) =
     cond (eqb (getD ts q 0) t) (min (getD front q 0 + getD cs q 0) (arrive ts cs front most t q)) (arrive ts cs front most t q)
 
--- the arc of some state below qs on value v leaves a way to the end
+-- the arc of state q on value v, with a cost spent, leaves a way to the end
+abbrev pub leadsOn : Net → List ℕ → ℕ → ℕ → ℕ → Bool
+leadsOn a needs q spent v = ltb (spent + a .fee q v) (roomsBy needs (a .to q v))
+
+-- that of some state below qs does
 unfoldable pub joins : Net → List ℕ → List ℕ → ℕ → ℕ → Bool
-joins a front needs v qs = any (λ q. ltb (getD front q 0 + a .fee q v) (roomsBy needs (a .to q v))) (down qs)
+joins a front needs v qs = any (λ q. leadsOn a needs q (getD front q 0) v) (down qs)
 
 -- a cost, struck where it leaves no room
 abbrev pub struck : ℕ → ℕ → ℕ
@@ -161,7 +165,7 @@ pub record Tells (a : Net) (qs vs start spent : ℕ) (ms work out : List ℕ) (l
 
 -- FIRST ROSTER. Whether a value can be taken at a state, with a cost spent.
 abbrev pub takeable : Net → List ℕ → ℕ → ℕ → ℕ → ℕ → Bool
-takeable a needs m q spent v = bit m v && ltb (spent + a .fee q v) (roomsBy needs (a .to q v))
+takeable a needs m q spent v = bit m v && leadsOn a needs q spent v
 
 -- what a walk along the smallest values finds: the first roster; or there is none, and nothing was written
 pub record Walks (a : Net) (qs vs start spent : ℕ) (ms work was is : List ℕ) (found : Bool) : Type 0 where

@@ -7,7 +7,7 @@ ghost use lib.ListN.{length, getD};
 ghost use Rattle.kinds.specs.Bits.{width, bit, maskOf};
 ghost use Rattle.meaning.specs.Bounds.{mostPlaces, mostStates, mostValues, tableSize, top};
 ghost use Rattle.rooms.specs.Tables.{Filled, turned, choices, Sizes, need, roomsBy, Bare, Low};
-ghost use Rattle.reach.specs.Looks.{joins, struck, lowest, liveOf, LiveHeld, LowRows, Pushed, Swept, Keeps, Spread, Blank, Arrives, Pulled, Past, Opened, Stepped, Tells};
+ghost use Rattle.reach.specs.Looks.{leadsOn, joins, struck, lowest, liveOf, LiveHeld, LowRows, Pushed, Swept, Keeps, Spread, Blank, Arrives, Pulled, Past, Opened, Stepped, Tells};
 use crate::past;
 use kinds::Mask;
 use kinds::State;
@@ -58,7 +58,23 @@ pub(crate) fn push(states: usize, targets: &[u8], costs: &[u16], front: &[u32], 
     }
 }
 
-// Whether the arc of a state on a value leaves a way to the end.
+// Whether the arc of a state on a value, with a cost spent, leaves a way to the end.
+pub(crate) fn leads_on(
+    targets: &[u8],
+    costs: &[u16],
+    needs: &[u32],
+    q: State,
+    spent: u32,
+    v: Value,
+) -> bool
+    requires { ⌜ (length (now targets) ≡ tableSize) × (length (now costs) ≡ tableSize) × (length (now needs) ≡ 256) × (q .0 < mostStates) × (spent ≤ suc top) × (v .0 < mostValues) × Low 256 (now needs) ⌝ }
+    ensures { λ r. ⌜ r ≡ leadsOn (turned (now (targets .entry)) (now (costs .entry))) (now (needs .entry)) (q .0) spent (v .0) ⌝ }
+{
+    let at = turned_at(q, v);
+    spent + (costs[at] as u32) + needs[targets[at] as usize] <= TOP
+}
+
+// The same of a state of the front.
 pub(crate) fn joins_at(
     targets: &[u8],
     costs: &[u16],
@@ -68,10 +84,10 @@ pub(crate) fn joins_at(
     v: Value,
 ) -> bool
     requires { ⌜ (length (now targets) ≡ tableSize) × (length (now costs) ≡ tableSize) × (q .0 < mostStates) × (v .0 < mostValues) × (q .0 < length (now front)) × (length (now needs) ≡ 256) × (getD (now front) (q .0) 0 ≤ suc top) × Low 256 (now needs) ⌝ }
-    ensures { λ r. ⌜ r ≡ ltb (getD (now (front .entry)) (q .0) 0 + turned (now (targets .entry)) (now (costs .entry)) .fee (q .0) (v .0)) (roomsBy (now (needs .entry)) (turned (now (targets .entry)) (now (costs .entry)) .to (q .0) (v .0))) ⌝ }
+    ensures { λ r. ⌜ r ≡ leadsOn (turned (now (targets .entry)) (now (costs .entry))) (now (needs .entry)) (q .0) (getD (now (front .entry)) (q .0) 0) (v .0) ⌝ }
 {
-    let at = turned_at(State(q.0), v);
-    front[q.0 as usize] + (costs[at] as u32) + needs[targets[at] as usize] <= TOP
+    let spent = front[q.0 as usize];
+    leads_on(targets, costs, needs, q, spent, v)
 }
 
 // The live states that are held, worked out first where they are not yet (0).
@@ -226,22 +242,21 @@ pub(crate) fn keep(
 {
     let mut live: u64 = 0;
     let mut kept = Mask::EMPTY;
-    let mut v = Value(0);
-    while (v.0 as usize) < values {
-        if mask.has(Value(v.0)) {
-            kept = look(
-                states,
-                targets,
-                costs,
-                front,
-                &mut live,
-                needs,
-                Value(v.0),
-                kept,
-                hints,
-            );
-        }
-        v = Value(v.0 + 1);
+    let mut unseen = mask.meet(Mask::full(values));
+    while unseen.0 != Mask::EMPTY.0 {
+        let v = unseen.smallest();
+        kept = look(
+            states,
+            targets,
+            costs,
+            front,
+            &mut live,
+            needs,
+            v,
+            kept,
+            hints,
+        );
+        unseen = unseen.rest();
     }
     kept
 }
@@ -259,14 +274,13 @@ pub(crate) fn sweep(
     requires { ⌜ (states ≤ mostStates) × (values ≤ mostValues) × (length (now targets) ≡ tableSize) × (length (now costs) ≡ tableSize) × (states ≤ length (now front)) × (length (now onward) ≡ 256) × Low states (now front) ⌝ }
     ensures { λ _. ⌜ Swept (turned (now (targets .entry)) (now (costs .entry))) states (choices values (mask .0)) (now (front .entry)) (now (onward .entry)) (now (onward .exit)) ⌝ }
 {
-    let mut v = Value(0);
-    while (v.0 as usize) < values {
-        if mask.has(Value(v.0)) {
-            let at = turned_at(State(0), Value(v.0));
-            let end = at + bounds::MOST_STATES;
-            push(states, &targets[at..end], &costs[at..end], front, onward);
-        }
-        v = Value(v.0 + 1);
+    let mut unswept = mask.meet(Mask::full(values));
+    while unswept.0 != Mask::EMPTY.0 {
+        let v = unswept.smallest();
+        let at = turned_at(State(0), v);
+        let end = at + bounds::MOST_STATES;
+        push(states, &targets[at..end], &costs[at..end], front, onward);
+        unswept = unswept.rest();
     }
 }
 

@@ -4,7 +4,8 @@ ghost use Prim.Native.Nat.{_+_, _*_, _≤_, _<_};
 ghost use lib.ListN.{length};
 ghost use Rattle.meaning.specs.Bounds.{mostStates, mostValues, tableSize, top};
 ghost use Rattle.rooms.specs.Tables.{turned, Sizes, Low};
-ghost use Rattle.reach.specs.Looks.{takeable, LowRows, Walks};
+ghost use Rattle.reach.specs.Looks.{LowRows, Walks};
+use crate::forward::leads_on;
 use kinds::Mask;
 use kinds::State;
 use kinds::Value;
@@ -13,26 +14,6 @@ use rooms::rows;
 use rooms::turn::turned_at;
 use rules::bounds;
 use rules::bounds::TOP;
-
-// Whether a value can be taken at a state, with a cost spent, so that a roster goes on.
-pub(crate) fn takeable(
-    targets: &[u8],
-    costs: &[u16],
-    needs: &[u32],
-    mask: Mask,
-    q: State,
-    spent: u32,
-    v: Value,
-) -> bool
-    requires { ⌜ (length (now targets) ≡ tableSize) × (length (now costs) ≡ tableSize) × (length (now needs) ≡ 256) × (q .0 < mostStates) × (spent ≤ top) × (v .0 < mostValues) × Low 256 (now needs) ⌝ }
-    ensures { λ r. ⌜ r ≡ takeable (turned (now (targets .entry)) (now (costs .entry))) (now (needs .entry)) (mask .0) (q .0) spent (v .0) ⌝ }
-{
-    if !mask.has(Value(v.0)) {
-        return false;
-    }
-    let at = turned_at(q, v);
-    spent + (costs[at] as u32) + needs[targets[at] as usize] <= TOP
-}
 
 // Writes the first roster, and says whether there is one. None can be missing but at the first place, so nothing is written then.
 pub(crate) fn walk(
@@ -57,23 +38,16 @@ pub(crate) fn walk(
         let row = (i + 1) * bounds::MOST_STATES;
         let end = row + bounds::MOST_STATES;
         rows::copy(states, &work[row..end], &mut needs);
-        let mut v = Value(0);
+        let mut left = Mask(masks[i]);
         let chosen = loop {
+            let v = left.smallest();
             if values <= (v.0 as usize) {
                 break 'places;
             }
-            if takeable(
-                targets,
-                costs,
-                &needs,
-                Mask(masks[i]),
-                State(q.0),
-                cost,
-                Value(v.0),
-            ) {
+            if leads_on(targets, costs, &needs, State(q.0), cost, Value(v.0)) {
                 break v;
             }
-            v = Value(v.0 + 1);
+            left = left.rest();
         };
         roster[i] = chosen.0;
         let at = turned_at(q, chosen);

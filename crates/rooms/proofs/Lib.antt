@@ -5,5 +5,6 @@ pub mod Serving
 pub mod Sizing
 pub mod Turning
 pub mod Layering
+pub mod Choosing
 pub mod Falling
 pub mod Unique

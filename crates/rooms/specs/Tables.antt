@@ -5,7 +5,7 @@ use mathlib.Core.Path.{_≡_}
 use Prim.Native.Nat.{ℕ, zero, suc, _+_, _*_, _-_, _≤_, _<_, min, max}
 use lib.Dec.{ltb}
 use lib.ListN.{length, getD, replicate, take, drop}
-use Rattle.kinds.specs.Bits.{bit}
+use Rattle.kinds.specs.Bits.{width, bit}
 use Rattle.meaning.specs.Meaning.{Arcs, arcsOf, target, cost, Place, places}
 use Rattle.meaning.specs.Lists.{those}
 use Rattle.ranks.specs.Rows.{out, Ranked}
@@ -90,23 +90,15 @@ pub record Low (n : ℕ) (row : List ℕ) : Type 0 where
 pub record Best (a : Net) (next : ℕ → ℕ) (n : ℕ) (first : Bool) (vs row : List ℕ) : Type 0 where
   pub is : (q : ℕ) → q < n → cond first (suc top) (getD row q 0) ≡ need (best a next q vs)
 
--- the same for all but the last values: those wait, three at most, the last one first
-pub data Held (a : Net) (next : ℕ → ℕ) (n : ℕ) (first : Bool) (h x y z : ℕ) (vs row : List ℕ) : Type 0 where
-  none : h ≡ 0 → Best a next n first vs row → Held a next n first h x y z vs row
-  one : (us : List ℕ) → h ≡ 1 → vs ≡ x ∷ us → Best a next n first us row → Held a next n first h x y z vs row
-  two : (us : List ℕ) → h ≡ 2 → vs ≡ x ∷ (y ∷ us) → Best a next n first us row → Held a next n first h x y z vs row
-  three : (us : List ℕ) → h ≡ 3 → vs ≡ x ∷ (y ∷ (z ∷ us)) → Best a next n first us row → Held a next n first h x y z vs row
-
--- value v more, whatever values were there before
-pub record LessensOn (a : Net) (next : ℕ → ℕ) (n : ℕ) (first : Bool) (h x y z v : ℕ) (first′ : Bool) (h′ x′ y′ z′ : ℕ) (row row′ : List ℕ) : Type 0 where
-  pub few : (x′ < mostValues) × (y′ < mostValues) × (z′ < mostValues)
-  pub goes : (vs : List ℕ) → Held a next n first h x y z vs row → Held a next n first′ h′ x′ y′ z′ (v ∷ vs) row′
+-- the same with some values more, whatever values were there before
+pub record Lessens (a : Net) (next : ℕ → ℕ) (n : ℕ) (first : Bool) (vs row row′ : List ℕ) : Type 0 where
+  pub goes : (us : List ℕ) → Best a next n first us row → Best a next n false (vs ++ us) row′
   pub left : (q : ℕ) → n ≤ q → getD row′ q 0 ≡ getD row q 0
 
--- none waits any more
-pub record LessensRest (a : Net) (next : ℕ → ℕ) (n : ℕ) (first : Bool) (h x y z : ℕ) (row row′ : List ℕ) : Type 0 where
-  pub goes : (vs : List ℕ) → Held a next n first h x y z vs row → Best a next n false vs row′
-  pub left : (q : ℕ) → n ≤ q → getD row′ q 0 ≡ getD row q 0
+-- values as they were picked, the last one first: none from the first on that is the width
+unfoldable pub upToNone : List ℕ → List ℕ
+upToNone [] = []
+upToNone (v ∷ vs) = cond (ltb v width) (upToNone vs ++ (v ∷ [])) []
 
 -- a room as the step into it has it, with that step's limit
 abbrev pub capped : ℕ → ℕ → ℕ

@@ -2,11 +2,12 @@
 // the greatest; with no limit in the way it is what the rest of a roster costs at the least.
 ghost use mathlib.Core.Path.{_≡_};
 ghost use mathlib.Core.Bool.{true, cond};
+ghost use mathlib.Core.List.{[], _∷_};
 ghost use Prim.Native.Nat.{suc, _+_, _*_, _-_, _≤_, _<_, min, max};
 ghost use lib.ListN.{length, getD};
 ghost use Rattle.kinds.specs.Bits.{bit};
 ghost use Rattle.meaning.specs.Bounds.{mostPlaces, mostStates, mostValues, tableSize, top};
-ghost use Rattle.rooms.specs.Tables.{Filled, turned, choices, best, need, asks, roomsBy, Low, LessensOn, LessensRest, before, frame, Layers, LowBehind, Laid, Outside, Clear, LikeLayer, Lays, Sizes, Fits, Prepares, Bare, Serves};
+ghost use Rattle.rooms.specs.Tables.{Filled, turned, choices, best, need, asks, roomsBy, Low, Lessens, upToNone, before, frame, Layers, LowBehind, Laid, Outside, Clear, LikeLayer, Lays, Sizes, Fits, Prepares, Bare, Serves};
 use crate::rows;
 use crate::turn;
 use crate::turn::turned_at;
@@ -178,95 +179,75 @@ pub(crate) fn lessen_four(
     }
 }
 
-// Values of a mask that wait, three at most, until the row is lessened to what they need together: whether nothing is in the row yet, how
-// many wait, and which, the last one first.
-pub(crate) struct Waiting {
-    pub(crate) first: bool,
-    pub(crate) held: u8,
-    pub(crate) x: Value,
-    pub(crate) y: Value,
-    pub(crate) z: Value,
-}
-
-// One value more: it waits beside the others, or makes a fourth with them, and the row is lessened to what the four need. Whether it is the
-// first turn is written out at each call, so that it is not tested at every state.
-pub(crate) fn lessen_on(
+// A row lessened to what four values need. Whether nothing is in the row yet is written out at each call, so that it is not tested at every
+// state.
+pub(crate) fn lessen_by_four(
+    first: bool,
     states: usize,
     targets: &[u8],
     costs: &[u16],
-    w: Waiting,
     v: Value,
-    needs: &[u32],
-    row: &mut [u32],
-) -> Waiting
-    requires { ⌜ (states ≤ mostStates) × (length (now targets) ≡ tableSize) × (length (now costs) ≡ tableSize) × (w .x .0 < mostValues) × (w .y .0 < mostValues) × (w .z .0 < mostValues) × (v .0 < mostValues) × (256 ≤ length (now needs)) × Low 256 (now needs) × (states ≤ length (now row)) ⌝ }
-    ensures { λ r. ⌜ LessensOn (turned (now (targets .entry)) (now (costs .entry))) (roomsBy (now (needs .entry))) states (w .first) (w .held) (w .x .0) (w .y .0) (w .z .0) (v .0) (r .first) (r .held) (r .x .0) (r .y .0) (r .z .0) (now (row .entry)) (now (row .exit)) ⌝ }
-{
-    if w.held < 3 {
-        return Waiting {
-            first: w.first,
-            held: w.held + 1,
-            x: v,
-            y: Value(w.x.0),
-            z: Value(w.y.0),
-        };
-    }
-    if w.first {
-        lessen_four(true, states, targets, costs, w.z, w.y, w.x, v, needs, row);
-    } else {
-        lessen_four(false, states, targets, costs, w.z, w.y, w.x, v, needs, row);
-    }
-    Waiting {
-        first: false,
-        held: 0,
-        x: Value(0),
-        y: Value(0),
-        z: Value(0),
-    }
-}
-
-// The row lessened to what the values need that still wait.
-pub(crate) fn lessen_rest(
-    states: usize,
-    targets: &[u8],
-    costs: &[u16],
-    w: Waiting,
+    w: Value,
+    x: Value,
+    y: Value,
     needs: &[u32],
     row: &mut [u32],
 )
-    requires { ⌜ (states ≤ mostStates) × (length (now targets) ≡ tableSize) × (length (now costs) ≡ tableSize) × (w .x .0 < mostValues) × (w .y .0 < mostValues) × (w .z .0 < mostValues) × (256 ≤ length (now needs)) × Low 256 (now needs) × (states ≤ length (now row)) ⌝ }
-    ensures { λ _. ⌜ LessensRest (turned (now (targets .entry)) (now (costs .entry))) (roomsBy (now (needs .entry))) states (w .first) (w .held) (w .x .0) (w .y .0) (w .z .0) (now (row .entry)) (now (row .exit)) ⌝ }
+    requires { ⌜ (states ≤ mostStates) × (length (now targets) ≡ tableSize) × (length (now costs) ≡ tableSize) × (v .0 < mostValues) × (w .0 < mostValues) × (x .0 < mostValues) × (y .0 < mostValues) × (256 ≤ length (now needs)) × Low 256 (now needs) × (states ≤ length (now row)) ⌝ }
+    ensures { λ _. ⌜ Lessens (turned (now (targets .entry)) (now (costs .entry))) (roomsBy (now (needs .entry))) states first (y .0 ∷ (x .0 ∷ (w .0 ∷ (v .0 ∷ [])))) (now (row .entry)) (now (row .exit)) ⌝ }
 {
-    if w.held == 0 {
-        if w.first {
+    if first {
+        lessen_four(true, states, targets, costs, v, w, x, y, needs, row);
+    } else {
+        lessen_four(false, states, targets, costs, v, w, x, y, needs, row);
+    }
+}
+
+// A row lessened to what the last values of a mask need, three at most: none from the first on that is the width.
+pub(crate) fn lessen_rest(
+    first: bool,
+    states: usize,
+    targets: &[u8],
+    costs: &[u16],
+    v: Value,
+    w: Value,
+    x: Value,
+    needs: &[u32],
+    row: &mut [u32],
+)
+    requires { ⌜ (states ≤ mostStates) × (length (now targets) ≡ tableSize) × (length (now costs) ≡ tableSize) × (256 ≤ length (now needs)) × Low 256 (now needs) × (states ≤ length (now row)) ⌝ }
+    ensures { λ _. ⌜ Lessens (turned (now (targets .entry)) (now (costs .entry))) (roomsBy (now (needs .entry))) states first (upToNone (v .0 ∷ (w .0 ∷ (x .0 ∷ [])))) (now (row .entry)) (now (row .exit)) ⌝ }
+{
+    if Mask::WIDTH <= v.0 {
+        if first {
             rows::blank(states, TOP + 1, row);
         }
         return;
     }
-    if w.held == 1 {
-        if w.first {
-            lessen(true, states, targets, costs, w.x, needs, row);
+    if Mask::WIDTH <= w.0 {
+        if first {
+            lessen(true, states, targets, costs, v, needs, row);
         } else {
-            lessen(false, states, targets, costs, w.x, needs, row);
+            lessen(false, states, targets, costs, v, needs, row);
         }
         return;
     }
-    if w.held == 2 {
-        if w.first {
-            lessen_two(true, states, targets, costs, w.y, w.x, needs, row);
+    if Mask::WIDTH <= x.0 {
+        if first {
+            lessen_two(true, states, targets, costs, v, w, needs, row);
         } else {
-            lessen_two(false, states, targets, costs, w.y, w.x, needs, row);
+            lessen_two(false, states, targets, costs, v, w, needs, row);
         }
         return;
     }
-    if w.first {
-        lessen_three(true, states, targets, costs, w.z, w.y, w.x, needs, row);
+    if first {
+        lessen_three(true, states, targets, costs, v, w, x, needs, row);
     } else {
-        lessen_three(false, states, targets, costs, w.z, w.y, w.x, needs, row);
+        lessen_three(false, states, targets, costs, v, w, x, needs, row);
     }
 }
 
-// The row of a layer, from the needs of the next: the least that the mask's values need.
+// The row of a layer, from the needs of the next: the least that the mask's values need, four at a time.
 pub(crate) fn fill_row(
     states: usize,
     values: usize,
@@ -279,21 +260,24 @@ pub(crate) fn fill_row(
     requires { ⌜ (states ≤ mostStates) × (values ≤ mostValues) × (length (now targets) ≡ tableSize) × (length (now costs) ≡ tableSize) × (256 ≤ length (now needs)) × Low 256 (now needs) × (states ≤ length (now row)) ⌝ }
     ensures { λ _. ⌜ Filled (λ q. need (best (turned (now (targets .entry)) (now (costs .entry))) (roomsBy (now (needs .entry))) q (choices values (mask .0)))) states (now (row .entry)) (now (row .exit)) ⌝ }
 {
-    let mut wait = Waiting {
-        first: true,
-        held: 0,
-        x: Value(0),
-        y: Value(0),
-        z: Value(0),
-    };
-    let mut v = Value(0);
-    while (v.0 as usize) < values {
-        if mask.has(Value(v.0)) {
-            wait = lessen_on(states, targets, costs, wait, Value(v.0), needs, row);
+    let mut first = true;
+    let mut left = mask.meet(Mask::full(values));
+    loop {
+        let v = left.smallest();
+        let second = left.rest();
+        let w = second.smallest();
+        let third = second.rest();
+        let x = third.smallest();
+        let fourth = third.rest();
+        if fourth.0 == Mask::EMPTY.0 {
+            lessen_rest(first, states, targets, costs, v, w, x, needs, row);
+            return;
         }
-        v = Value(v.0 + 1);
+        let y = fourth.smallest();
+        lessen_by_four(first, states, targets, costs, v, w, x, y, needs, row);
+        first = false;
+        left = fourth.rest();
     }
-    lessen_rest(states, targets, costs, wait, needs, row);
 }
 
 // What every state of layer i needs at the least, by the limit of the step into it.

@@ -1,68 +1,58 @@
-use Prim.Native.Nat.{_≤_, _-_}
-use mathlib.Core.Path.{_≡_, refl, sym, _∙_, ap}
-use mathlib.Core.Logic.{⊎-elim}
+use mathlib.Core.Path.{_≡_, refl, _∙_}
+use mathlib.Core.List.{List}
 use lib.ListN.{length}
-use Rattle.rooms.specs.Tables.{turned, choices}
+use borrow.Author.Needs.{needs}
+use Rattle.kinds.proofs.Bits.{mask-lt}
+use Rattle.rooms.specs.Tables.{turned}
+use Rattle.rooms.proofs.Choosing.{Picked, Through, choices-within, picked-few, picked-less, through-none, through-more, through-end}
 use Rattle.reach.specs.Looks.{LiveHeld, Keeps}
 use Rattle.reach.proofs.Living.{held-none}
-use Rattle.reach.proofs.Sweeping.{keeps-none, keeps-more, keeps-skip, keeps-end}
-use Rattle.kinds.specs.declared.Mask.{Mask}
-use borrow.Author.Needs.{needs}
-use native.Mathlib.Omega.{arith}
+use Rattle.reach.proofs.Sweeping.{keeps-none, keeps-more}
 use Rattle.reach.proofs.forward.keep.Statement.{statement}
 use Rattle.reach.proofs.forward.keep.Tie as tie
 
 abbrev Inv-loop : tie.InvT-loop
-Inv-loop states values targets costs mask front needs hints₀ live₀ kept₀ v₀ hints live kept v = (v .0 ≤ values) × (length hints ≡ length hints₀) × Keeps (turned targets costs) states (choices (v .0) (mask .0)) front needs (kept .0) × LiveHeld states front live
+Inv-loop states values targets costs front needs hints₀ live₀ kept₀ unseen₀ hints live kept unseen = (length hints ≡ length hints₀) × Through (λ us. Keeps (turned targets costs) states us front needs (kept .0)) (unseen₀ .0) (unseen .0) × LiveHeld states front live
 
 abbrev μ-loop : tie.MeasureT-loop
-μ-loop states values targets costs mask front needs hints₀ live₀ kept₀ v₀ hints live kept v = values - v .0
+μ-loop states values targets costs front needs hints₀ live₀ kept₀ unseen₀ hints live kept unseen = unseen .0
+
+full-requires : tie.Need-full-requires Inv-loop μ-loop
+full-requires c κs = search needs
+
+meet-requires : tie.Need-meet-requires Inv-loop μ-loop
+meet-requires c κs = search needs
 
 loop-holds : tie.Need-loop-holds Inv-loop μ-loop
-loop-holds c = let a = c .before .before .before .before .before .args in
-    (omega arith, refl, keeps-none (turned (a .targets .now) (a .costs .now)) (a .states) (a .mask .0) (a .front .now) (a .needs .now), held-none _ _ _ refl)
+loop-holds c = let a = c .before .before .before .before .before .before .before .args in (refl, through-none _ _ (rw (c .meet .ensures) (mask-lt _ 16)) (keeps-none (turned (a .targets .now) (a .costs .now)) (a .states) (a .front .now) (a .needs .now)), held-none _ _ _ refl)
 
-cast-if1 : tie.Need-cast-if1 Inv-loop μ-loop
-cast-if1 c = search needs
-
-has-requires : tie.Need-has-requires Inv-loop μ-loop
-has-requires c κs = search needs
+smallest-requires : tie.Need-smallest-requires Inv-loop μ-loop
+smallest-requires c κs = search needs
 
 look-requires : tie.Need-look-requires Inv-loop μ-loop
-look-requires c κs = let p = c .before .before .before .before .before .before .before .before .before .before .before .before .pre in
-    let l = c .before .before .before .before .before .before .loop .inv in
-    (p .0, p .2, p .3, p .4, p .5, omega arith, l .1 ∙ p .6, p .7, l .3, p .8)
+look-requires c κs = let p = c .before .before .before .before .before .before .before .before .before .before .before .before .before .before .pre in let l = c .before .before .before .before .before .before .loop .inv in
+    let one : Picked (c .before .before .before .before .before .before .loop .unseen .0) _ _ = record { few = l .1 .few; smallest = c .before .before .smallest .ensures; rest = refl } in
+    (p .0, p .2, p .3, p .4, p .5, picked-few one (c .before .before .before .if1 .taken), l .0 ∙ p .6, p .7, l .2, p .8)
 
-add-t20 : tie.Need-add-t20 Inv-loop μ-loop
-add-t20 c = search needs
+rest-requires : tie.Need-rest-requires Inv-loop μ-loop
+rest-requires c κs = search needs
 
 loop-less : tie.Need-loop-less Inv-loop μ-loop
-loop-less c = search needs
+loop-less c = let one : Picked (c .before .before .before .before .before .before .before .before .before .before .loop .unseen .0) _ _ = record { few = c .before .before .before .before .before .before .before .before .before .before .loop .inv .1 .few; smallest = c .before .before .before .before .before .before .smallest .ensures; rest = c .rest .ensures } in picked-less one (c .before .before .before .before .before .before .before .if1 .taken)
 
 loop-again : tie.Need-loop-again Inv-loop μ-loop
-loop-again c = let a = c .before .before .before .before .before .before .before .before .before .before .before .args in
-    let l = c .before .before .before .before .before .loop in
-    ⊎-elim
-    (λ w. (
-      omega arith,
-      ap length (w .6) ∙ (w .3 .kept .1 .1 .1 .1 .1 .1 .1 .1 .0 ∙ l .inv .1),
-      keeps-more (turned (a .targets .now) (a .costs .now)) (a .states) (a .mask .0) (a .front .now) (a .needs .now) (l .v .0) (sym (c .before .before .has .ensures) ∙ w .0 .taken)
-          (l .inv .2) (w .3 .ensures .0) (ap (λ (m : Mask). m .0) (w .8)),
-      rw (w .7) (w .3 .ensures .1),
-    ))
-    (λ w. (
-      omega arith,
-      ap length (w .1) ∙ l .inv .1,
-      keeps-skip (turned (a .targets .now) (a .costs .now)) (a .states) (a .mask .0) (a .front .now) (a .needs .now) (l .v .0) (sym (c .before .before .has .ensures) ∙ w .0 .left) (l .inv .2) (ap (λ (m : Mask). m .0) (w .3)),
-      rw (w .2) (l .inv .3),
-    ))
-    (c .before .if2 .came)
+loop-again c = let a = c .before .before .before .before .before .before .before .before .before .before .before .before .before .before .before .before .before .before .args in let l = c .before .before .before .before .before .before .before .before .before .before .loop in
+    let one : Picked (l .unseen .0) _ _ = record { few = l .inv .1 .few; smallest = c .before .before .before .before .before .before .smallest .ensures; rest = c .rest .ensures } in (
+      c .before .before .before .look .kept .1 .1 .1 .1 .1 .1 .1 .1 .0 ∙ l .inv .0,
+      through-more _ (λ us. Keeps (turned (a .targets .now) (a .costs .now)) (a .states) us (a .front .now) (a .needs .now) (c .before .before .before .look .result .0)) one (c .before .before .before .before .before .before .before .if1 .taken) (λ us s. keeps-more (turned (a .targets .now) (a .costs .now)) (a .states) (a .front .now) (a .needs .now) _ us (c .before .before .before .look .ensures .0) s) (l .inv .1),
+      c .before .before .before .look .ensures .1,
+    )
 
 same-length : tie.Need-same-length Inv-loop μ-loop
-same-length c = c .before .before .loop .inv .1
+same-length c = c .before .before .before .loop .inv .0
 
 returns : tie.Need-returns Inv-loop μ-loop
-returns c = keeps-end _ _ _ _ _ (c .before .before .loop .inv .0) (c .if1 .left) (c .before .before .loop .inv .2)
+returns c = let a = c .before .before .before .before .before .before .before .before .before .before .before .args in through-end (λ us. Keeps (turned (a .targets .now) (a .costs .now)) (a .states) us (a .front .now) (a .needs .now) (c .before .before .before .loop .kept .0)) (c .if1 .left) (c .before .before .before .loop .inv .1) (choices-within (a .values) (a .mask .0) (c .before .before .before .before .before .before .before .before .before .before .before .pre .1) (c .before .before .before .before .before .full .ensures) (c .before .before .before .before .meet .ensures))
 
 pub keep-spec : {M : Type 1} → statement M
 keep-spec =
@@ -70,11 +60,12 @@ keep-spec =
     (tie.spec
     Inv-loop
     μ-loop
+    full-requires
+    meet-requires
     loop-holds
-    cast-if1
-    has-requires
+    smallest-requires
     look-requires
-    add-t20
+    rest-requires
     loop-less
     loop-again
     same-length

@@ -1,36 +1,41 @@
-use Prim.Native.Nat.{_≤_, _-_, _+_}
-use mathlib.Core.Path.{_≡_, refl, sym, _∙_, ap}
-use mathlib.Core.Logic.{⊎-elim}
+use Prim.Native.Nat.{_+_, _-_}
+use mathlib.Core.Path.{_≡_, refl, _∙_}
+use mathlib.Core.List.{List}
 use lib.ListN.{length, length-take, length-drop}
-use Rattle.rooms.specs.Tables.{turned, choices}
-use Rattle.reach.specs.Looks.{Swept}
-use Rattle.reach.proofs.Sweeping.{swept-none, swept-more, swept-skip, swept-end}
-use borrow.Author.Needs.{needs}
 use native.Mathlib.Omega.{arith}
+use borrow.Author.Needs.{needs}
+use Rattle.kinds.proofs.Bits.{mask-lt}
+use Rattle.kinds.specs.Bits.{restOf}
+use Rattle.rooms.specs.Tables.{turned}
+use Rattle.rooms.proofs.Choosing.{Picked, Through, choices-within, picked-few, picked-less, through-none, through-more, through-end}
+use Rattle.reach.specs.Looks.{Swept}
+use Rattle.reach.proofs.Sweeping.{swept-none, swept-more}
 use Rattle.reach.proofs.forward.sweep.Statement.{statement}
 use Rattle.reach.proofs.forward.sweep.Tie as tie
 
 abbrev Inv-loop : tie.InvT-loop
-Inv-loop states values targets costs mask front onward₀ v₀ onward v = (v .0 ≤ values) × (length onward ≡ length onward₀) × Swept (turned targets costs) states (choices (v .0) (mask .0)) front onward₀ onward
+Inv-loop states values targets costs front onward₀ unswept₀ onward unswept = (length onward ≡ length onward₀) × Through (λ us. Swept (turned targets costs) states us front onward₀ onward) (unswept₀ .0) (unswept .0)
 
 abbrev μ-loop : tie.MeasureT-loop
-μ-loop states values targets costs mask front onward₀ v₀ onward v = values - v .0
+μ-loop states values targets costs front onward₀ unswept₀ onward unswept = unswept .0
+
+full-requires : tie.Need-full-requires Inv-loop μ-loop
+full-requires c κs = search needs
+
+meet-requires : tie.Need-meet-requires Inv-loop μ-loop
+meet-requires c κs = search needs
 
 loop-holds : tie.Need-loop-holds Inv-loop μ-loop
-loop-holds c = let a = c .before .before .before .before .args in
-    (omega arith, refl, swept-none (a .targets .now) (a .costs .now) (a .states) (a .mask .0) (a .front .now) (a .onward .now))
+loop-holds c = let a = c .before .before .before .before .before .before .args in (refl, through-none _ _ (rw (c .meet .ensures) (mask-lt _ 16)) (swept-none (a .targets .now) (a .costs .now) (a .states) (a .front .now) (a .onward .now)))
 
-cast-if1 : tie.Need-cast-if1 Inv-loop μ-loop
-cast-if1 c = search needs
-
-has-requires : tie.Need-has-requires Inv-loop μ-loop
-has-requires c κs = search needs
+smallest-requires : tie.Need-smallest-requires Inv-loop μ-loop
+smallest-requires c κs = search needs
 
 turned-at-requires : tie.Need-turned-at-requires Inv-loop μ-loop
 turned-at-requires c κs = search needs
 
 add-end : tie.Need-add-end Inv-loop μ-loop
-add-end c = omega (arith, c .turned-at .ensures)
+add-end c = let few = picked-few {m = c .before .before .before .before .before .loop .unswept .0} {r = restOf (c .before .before .before .before .before .loop .unswept .0)} (record { few = c .before .before .before .before .before .loop .inv .1 .few; smallest = c .before .smallest .ensures; rest = refl }) (c .before .before .if1 .taken) in omega (arith, c .turned-at .ensures, few)
 
 sub-push : tie.Need-sub-push Inv-loop μ-loop
 sub-push c = search needs
@@ -39,10 +44,10 @@ part-push-start : tie.Need-part-push-start Inv-loop μ-loop
 part-push-start c = search needs
 
 part-push-end : tie.Need-part-push-end Inv-loop μ-loop
-part-push-end c = omega (arith, c .turned-at .ensures)
+part-push-end c = let few = picked-few {m = c .before .before .before .before .before .loop .unswept .0} {r = restOf (c .before .before .before .before .before .loop .unswept .0)} (record { few = c .before .before .before .before .before .loop .inv .1 .few; smallest = c .before .smallest .ensures; rest = refl }) (c .before .before .if1 .taken) in omega (arith, c .turned-at .ensures, few)
 
 mul-push : tie.Need-mul-push Inv-loop μ-loop
-mul-push c = omega (arith, c .before .turned-at .ensures)
+mul-push c = let few = picked-few {m = c .before .before .before .before .before .before .loop .unswept .0} {r = restOf (c .before .before .before .before .before .before .loop .unswept .0)} (record { few = c .before .before .before .before .before .before .loop .inv .1 .few; smallest = c .before .before .smallest .ensures; rest = refl }) (c .before .before .before .if1 .taken) in omega (arith, c .before .turned-at .ensures, few)
 
 sub-push-2 : tie.Need-sub-push-2 Inv-loop μ-loop
 sub-push-2 c = search needs
@@ -51,40 +56,31 @@ part-push-start-2 : tie.Need-part-push-start-2 Inv-loop μ-loop
 part-push-start-2 c = search needs
 
 part-push-end-2 : tie.Need-part-push-end-2 Inv-loop μ-loop
-part-push-end-2 c = omega (arith, c .before .turned-at .ensures)
+part-push-end-2 c = let few = picked-few {m = c .before .before .before .before .before .before .loop .unswept .0} {r = restOf (c .before .before .before .before .before .before .loop .unswept .0)} (record { few = c .before .before .before .before .before .before .loop .inv .1 .few; smallest = c .before .before .smallest .ensures; rest = refl }) (c .before .before .before .if1 .taken) in omega (arith, c .before .turned-at .ensures, few)
 
 push-requires : tie.Need-push-requires Inv-loop μ-loop
-push-requires c κs = let e = c .before .before .before .turned-at .ensures in
-    (c .before .before .before .before .before .before .before .before .before .before .before .before .before .pre .0, simp (length-take, length-drop) (omega arith), simp (length-take, length-drop) (omega arith), omega arith, omega arith, c .before .before .before .before .before .before .before .before .before .before .before .before .before .pre .6)
+push-requires c κs = let few = picked-few {m = c .before .before .before .before .before .before .before .before .loop .unswept .0} {r = restOf (c .before .before .before .before .before .before .before .before .loop .unswept .0)} (record { few = c .before .before .before .before .before .before .before .before .loop .inv .1 .few; smallest = c .before .before .before .before .smallest .ensures; rest = refl }) (c .before .before .before .before .before .if1 .taken) in let e = c .before .before .before .turned-at .ensures in
+    (c .before .before .before .before .before .before .before .before .before .before .before .before .before .before .before .pre .0, simp (length-take, length-drop) (omega arith), simp (length-take, length-drop) (omega arith), c .before .before .before .before .before .before .before .before .before .before .before .before .before .before .before .pre .4, c .before .before .before .before .before .before .before .before .loop .inv .0 ∙ c .before .before .before .before .before .before .before .before .before .before .before .before .before .before .before .pre .5, c .before .before .before .before .before .before .before .before .before .before .before .before .before .before .before .pre .6)
 
-add-t29 : tie.Need-add-t29 Inv-loop μ-loop
-add-t29 c = search needs
+rest-requires : tie.Need-rest-requires Inv-loop μ-loop
+rest-requires c κs = search needs
 
 loop-less : tie.Need-loop-less Inv-loop μ-loop
-loop-less c = search needs
+loop-less c = let one : Picked (c .before .before .before .before .before .before .before .before .before .before .before .before .loop .unswept .0) _ _ = record { few = c .before .before .before .before .before .before .before .before .before .before .before .before .loop .inv .1 .few; smallest = c .before .before .before .before .before .before .before .before .smallest .ensures; rest = c .rest .ensures } in picked-less one (c .before .before .before .before .before .before .before .before .before .if1 .taken)
 
 loop-again : tie.Need-loop-again Inv-loop μ-loop
-loop-again c = let a = c .before .before .before .before .before .before .before .before .before .before .args in
-    let l = c .before .before .before .before .before .loop in
-    ⊎-elim
-    (λ w. (
-      omega arith,
-      ap length (w .8) ∙ (w .5 .kept .1 .1 .1 .1 .0 ∙ l .inv .1),
-      swept-more (a .targets .now) (a .costs .now) (a .states) (a .mask .0) (a .front .now) (l .v .0) (w .1 .result) (w .1 .result + 64 - w .1 .result) (sym (c .before .before .has .ensures) ∙ w .0 .taken) (omega (arith, w .1 .ensures)) (omega arith)
-          (l .inv .2) (w .5 .ensures) (w .8),
-    ))
-    (λ w. (
-      omega arith,
-      ap length (w .1) ∙ l .inv .1,
-      swept-skip (a .targets .now) (a .costs .now) (a .states) (a .mask .0) (a .front .now) (l .v .0) (sym (c .before .before .has .ensures) ∙ w .0 .left) (l .inv .2) (w .1),
-    ))
-    (c .before .if2 .came)
+loop-again c = let a = c .before .before .before .before .before .before .before .before .before .before .before .before .before .before .before .before .before .before .before .args in let l = c .before .before .before .before .before .before .before .before .before .before .before .before .loop in
+    let at = c .before .before .before .before .before .before .before .turned-at in
+    let one : Picked (l .unswept .0) _ _ = record { few = l .inv .1 .few; smallest = c .before .before .before .before .before .before .before .before .smallest .ensures; rest = c .rest .ensures } in (
+      c .before .before .before .push .kept .1 .1 .1 .1 .0 ∙ l .inv .0,
+      through-more _ (λ us. Swept (turned (a .targets .now) (a .costs .now)) (a .states) us (a .front .now) (a .onward .now) _) one (c .before .before .before .before .before .before .before .before .before .if1 .taken) (λ us s. swept-more (a .targets .now) (a .costs .now) (a .states) (a .front .now) (c .before .before .before .before .before .before .before .before .smallest .result .0) (at .result) (at .result + 64 - at .result) us (omega (arith, at .ensures)) (omega (arith, c .before .before .before .before .before .before .before .before .before .before .before .before .before .before .before .before .before .before .before .pre .0)) (c .before .before .before .push .ensures) s) (l .inv .1),
+    )
 
 same-length : tie.Need-same-length Inv-loop μ-loop
-same-length c = c .before .before .loop .inv .1
+same-length c = c .before .before .before .loop .inv .0
 
 returns : tie.Need-returns Inv-loop μ-loop
-returns c = swept-end _ _ _ _ _ (c .before .before .loop .inv .0) (c .if1 .left) (c .before .before .loop .inv .2)
+returns c = let a = c .before .before .before .before .before .before .before .before .before .before .args in through-end (λ us. Swept (turned (a .targets .now) (a .costs .now)) (a .states) us (a .front .now) (a .onward .now) (c .before .before .before .loop .onward)) (c .if1 .left) (c .before .before .before .loop .inv .1) (choices-within (a .values) (a .mask .0) (c .before .before .before .before .before .before .before .before .before .before .pre .1) (c .before .before .before .before .before .full .ensures) (c .before .before .before .before .meet .ensures))
 
 pub sweep-spec : {M : Type 1} → statement M
 sweep-spec =
@@ -92,9 +88,10 @@ sweep-spec =
     (tie.spec
     Inv-loop
     μ-loop
+    full-requires
+    meet-requires
     loop-holds
-    cast-if1
-    has-requires
+    smallest-requires
     turned-at-requires
     add-end
     sub-push
@@ -105,7 +102,7 @@ sweep-spec =
     part-push-start-2
     part-push-end-2
     push-requires
-    add-t29
+    rest-requires
     loop-less
     loop-again
     same-length

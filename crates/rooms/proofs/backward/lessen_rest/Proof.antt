@@ -1,7 +1,8 @@
 use Rattle.meaning.specs.Bounds.{top}
-use Rattle.rooms.specs.Tables.{turned}
+use borrow.Author.Tests.{lt-ltb, le-ltb}
+use Rattle.rooms.specs.Tables.{turned, upToNone}
 use Rattle.rooms.proofs.Filling.{filled-same, blanked-filled}
-use Rattle.rooms.proofs.Raising.{rest-none, rest-one, rest-two, rest-three}
+use Rattle.rooms.proofs.Raising.{lessens}
 use borrow.Author.Needs.{needs}
 use Rattle.rooms.proofs.backward.lessen_rest.Statement.{statement}
 use Rattle.rooms.proofs.backward.lessen_rest.Tie as tie
@@ -16,65 +17,72 @@ same-length : tie.Need-same-length
 same-length c = search needs
 
 returns : tie.Need-returns
-unfolding top
-returns c = let a = c .before .before .before .before .before .before .before .before .before .before .before .args in rw (c .before .before .before .before .if2 .taken) (rest-none (turned (a .targets .now) (a .costs .now)) (a .needs .now) (a .states) (c .before .before .before .before .before .if1 .taken) (blanked-filled _ _ (c .before .before .before .before .before .before .before .before .before .before .before .pre .8) (c .before .before .blank .ensures)))
+unfolding top upToNone
+returns c = let a = c .before .before .before .before .before .before .before .before .before .before .before .args in rw (le-ltb (a .v .0) 16 (c .before .before .before .before .before .if1 .taken), c .before .before .before .before .if2 .taken) (lessens (turned (a .targets .now) (a .costs .now)) (a .needs .now) (a .states) _ (blanked-filled _ _ (c .before .before .before .before .before .before .before .before .before .before .before .pre .5) (c .before .before .blank .ensures)))
 
 returns-2 : tie.Need-returns-2
-returns-2 c = let a = c .before .before .before .before .before .before .before .args in rw (c .if2 .left) (rest-none (turned (a .targets .now) (a .costs .now)) (a .needs .now) (a .states) (c .before .if1 .taken) (filled-same _ _))
+unfolding upToNone
+returns-2 c = let a = c .before .before .before .before .before .before .before .args in rw (le-ltb (a .v .0) 16 (c .before .if1 .taken), c .if2 .left) (lessens (turned (a .targets .now) (a .costs .now)) (a .needs .now) (a .states) _ (filled-same _ _))
 
 lessen-requires : tie.Need-lessen-requires
-lessen-requires c κs = let p = c .before .before .before .before .before .before .before .before .before .before .pre in (p .0, p .1, p .2, p .3, p .6, p .7, p .8)
+lessen-requires c κs = search needs
 
 lessen-requires-2 : tie.Need-lessen-requires-2
-lessen-requires-2 c κs = let p = c .before .before .before .before .before .before .before .before .before .before .pre in (p .0, p .1, p .2, p .3, p .6, p .7, p .8)
+lessen-requires-2 c κs = search needs
 
 same-length-2 : tie.Need-same-length-2
 same-length-2 c = search needs
 
 returns-3 : tie.Need-returns-3
-returns-3 c = let a = c .before .before .before .before .before .before .before .before .before .before .before .before .before .args in rw (c .before .before .before .before .if4 .taken) (rest-one (turned (a .targets .now) (a .costs .now)) (a .needs .now) (a .states) (c .before .before .before .before .before .if3 .taken) (c .before .before .lessen .ensures))
+unfolding upToNone
+returns-3 c = let a = c .before .before .before .before .before .before .before .before .before .before .before .before .before .args in rw (lt-ltb (a .v .0) 16 (c .before .before .before .before .before .before .before .if1 .left), le-ltb (a .w .0) 16 (c .before .before .before .before .before .if3 .taken), c .before .before .before .before .if4 .taken) (lessens (turned (a .targets .now) (a .costs .now)) (a .needs .now) (a .states) _ (c .before .before .lessen .ensures))
 
 same-length-3 : tie.Need-same-length-3
 same-length-3 c = search needs
 
 returns-4 : tie.Need-returns-4
-returns-4 c = let a = c .before .before .before .before .before .before .before .before .before .before .before .before .before .args in rw (c .before .before .before .before .if4 .left) (rest-one (turned (a .targets .now) (a .costs .now)) (a .needs .now) (a .states) (c .before .before .before .before .before .if3 .taken) (c .before .before .lessen2 .ensures))
+unfolding upToNone
+returns-4 c = let a = c .before .before .before .before .before .before .before .before .before .before .before .before .before .args in rw (lt-ltb (a .v .0) 16 (c .before .before .before .before .before .before .before .if1 .left), le-ltb (a .w .0) 16 (c .before .before .before .before .before .if3 .taken), c .before .before .before .before .if4 .left) (lessens (turned (a .targets .now) (a .costs .now)) (a .needs .now) (a .states) _ (c .before .before .lessen2 .ensures))
 
 lessen-two-requires : tie.Need-lessen-two-requires
-lessen-two-requires c κs = let p = c .before .before .before .before .before .before .before .before .before .before .before .before .pre in (p .0, p .1, p .2, p .4, p .3, p .6, p .7, p .8)
+lessen-two-requires c κs = search needs
 
 lessen-two-requires-2 : tie.Need-lessen-two-requires-2
-lessen-two-requires-2 c κs = let p = c .before .before .before .before .before .before .before .before .before .before .before .before .pre in (p .0, p .1, p .2, p .4, p .3, p .6, p .7, p .8)
+lessen-two-requires-2 c κs = search needs
 
 same-length-4 : tie.Need-same-length-4
 same-length-4 c = search needs
 
 returns-5 : tie.Need-returns-5
-returns-5 c = let a = c .before .before .before .before .before .before .before .before .before .before .before .before .before .before .before .args in rw (c .before .before .before .before .if6 .taken) (rest-two (turned (a .targets .now) (a .costs .now)) (a .needs .now) (a .states) (c .before .before .before .before .before .if5 .taken) (c .before .before .lessen-two .ensures))
+unfolding upToNone
+returns-5 c = let a = c .before .before .before .before .before .before .before .before .before .before .before .before .before .before .before .args in rw (lt-ltb (a .v .0) 16 (c .before .before .before .before .before .before .before .before .before .if1 .left), lt-ltb (a .w .0) 16 (c .before .before .before .before .before .before .before .if3 .left), le-ltb (a .x .0) 16 (c .before .before .before .before .before .if5 .taken), c .before .before .before .before .if6 .taken) (lessens (turned (a .targets .now) (a .costs .now)) (a .needs .now) (a .states) _ (c .before .before .lessen-two .ensures))
 
 same-length-5 : tie.Need-same-length-5
 same-length-5 c = search needs
 
 returns-6 : tie.Need-returns-6
-returns-6 c = let a = c .before .before .before .before .before .before .before .before .before .before .before .before .before .before .before .args in rw (c .before .before .before .before .if6 .left) (rest-two (turned (a .targets .now) (a .costs .now)) (a .needs .now) (a .states) (c .before .before .before .before .before .if5 .taken) (c .before .before .lessen-two2 .ensures))
+unfolding upToNone
+returns-6 c = let a = c .before .before .before .before .before .before .before .before .before .before .before .before .before .before .before .args in rw (lt-ltb (a .v .0) 16 (c .before .before .before .before .before .before .before .before .before .if1 .left), lt-ltb (a .w .0) 16 (c .before .before .before .before .before .before .before .if3 .left), le-ltb (a .x .0) 16 (c .before .before .before .before .before .if5 .taken), c .before .before .before .before .if6 .left) (lessens (turned (a .targets .now) (a .costs .now)) (a .needs .now) (a .states) _ (c .before .before .lessen-two2 .ensures))
 
 lessen-three-requires : tie.Need-lessen-three-requires
-lessen-three-requires c κs = let p = c .before .before .before .before .before .before .before .before .before .before .before .before .pre in (p .0, p .1, p .2, p .5, p .4, p .3, p .6, p .7, p .8)
+lessen-three-requires c κs = search needs
 
 lessen-three-requires-2 : tie.Need-lessen-three-requires-2
-lessen-three-requires-2 c κs = let p = c .before .before .before .before .before .before .before .before .before .before .before .before .pre in (p .0, p .1, p .2, p .5, p .4, p .3, p .6, p .7, p .8)
+lessen-three-requires-2 c κs = search needs
 
 same-length-6 : tie.Need-same-length-6
 same-length-6 c = search needs
 
 returns-7 : tie.Need-returns-7
-returns-7 c = let a = c .before .before .before .before .before .before .before .before .before .before .before .before .before .before .before .args in rw (c .before .before .before .before .if7 .taken) (rest-three (turned (a .targets .now) (a .costs .now)) (a .needs .now) (a .states) (c .before .before .before .before .before .before .before .before .before .if1 .left) (c .before .before .before .before .before .before .before .if3 .left) (c .before .before .before .before .before .if5 .left) (c .before .before .lessen-three .ensures))
+unfolding upToNone
+returns-7 c = let a = c .before .before .before .before .before .before .before .before .before .before .before .before .before .before .before .args in rw (lt-ltb (a .v .0) 16 (c .before .before .before .before .before .before .before .before .before .if1 .left), lt-ltb (a .w .0) 16 (c .before .before .before .before .before .before .before .if3 .left), lt-ltb (a .x .0) 16 (c .before .before .before .before .before .if5 .left), c .before .before .before .before .if7 .taken) (lessens (turned (a .targets .now) (a .costs .now)) (a .needs .now) (a .states) _ (c .before .before .lessen-three .ensures))
 
 same-length-7 : tie.Need-same-length-7
 same-length-7 c = search needs
 
 returns-8 : tie.Need-returns-8
-returns-8 c = let a = c .before .before .before .before .before .before .before .before .before .before .before .before .before .before .before .args in rw (c .before .before .before .before .if7 .left) (rest-three (turned (a .targets .now) (a .costs .now)) (a .needs .now) (a .states) (c .before .before .before .before .before .before .before .before .before .if1 .left) (c .before .before .before .before .before .before .before .if3 .left) (c .before .before .before .before .before .if5 .left) (c .before .before .lessen-three2 .ensures))
+unfolding upToNone
+returns-8 c = let a = c .before .before .before .before .before .before .before .before .before .before .before .before .before .before .before .args in rw (lt-ltb (a .v .0) 16 (c .before .before .before .before .before .before .before .before .before .if1 .left), lt-ltb (a .w .0) 16 (c .before .before .before .before .before .before .before .if3 .left), lt-ltb (a .x .0) 16 (c .before .before .before .before .before .if5 .left), c .before .before .before .before .if7 .left) (lessens (turned (a .targets .now) (a .costs .now)) (a .needs .now) (a .states) _ (c .before .before .lessen-three2 .ensures))
 
 pub lessen-rest-spec : {M : Type 1} → statement M
 lessen-rest-spec =

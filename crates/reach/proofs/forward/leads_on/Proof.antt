@@ -1,18 +1,10 @@
-use mathlib.Core.Path.{sym}
 use Rattle.meaning.specs.Bounds.{top}
-use Rattle.rules.proofs.Checks.{and-fails, and-goes, test-failed, test-passed}
 use lib.ListN.{getD}
 use native.Mathlib.Omega.{arith}
 use Rattle.reach.proofs.Needing.{arc-fits}
 use borrow.Author.Needs.{needs}
-use Rattle.reach.proofs.walk.takeable.Statement.{statement}
-use Rattle.reach.proofs.walk.takeable.Tie as tie
-
-has-requires : tie.Need-has-requires
-has-requires c κs = search needs
-
-returns : tie.Need-returns
-returns c = sym (and-fails _ _ (test-failed (c .before .has .ensures) (c .if1 .taken)))
+use Rattle.reach.proofs.forward.leads_on.Statement.{statement}
+use Rattle.reach.proofs.forward.leads_on.Tie as tie
 
 turned-at-requires : tie.Need-turned-at-requires
 turned-at-requires c κs = search needs
@@ -44,20 +36,18 @@ shared-slice-read-result-3 c = omega (arith, c .before .shared-slice-known5 .giv
 
 add-result-2 : tie.Need-add-result-2
 unfolding top
-add-result-2 c = let a = c .before .before .before .before .before .before .before .before .before .args in
+add-result-2 c = let a = c .before .before .before .before .before .before .before .args in
     let g = c .before .shared-slice-known5 .given (c .before .before .before .turned-at .result) in
-    omega (arith, c .before .before .shared-slice-known4 .given (c .before .before .before .turned-at .result), c .before .before .before .before .before .before .before .before .before .pre .6 .low (getD (a .targets .now) (c .before .before .before .turned-at .result) 0) (omega arith))
+    omega (arith, c .before .before .shared-slice-known4 .given (c .before .before .before .turned-at .result), c .before .before .before .before .before .before .before .pre .6 .low (getD (a .targets .now) (c .before .before .before .turned-at .result) 0) (omega arith))
 
-returns-2 : tie.Need-returns-2
-returns-2 c = let a = c .before .before .before .before .before .before .before .before .before .args in
-    sym (and-goes _ _ _ (test-passed (c .before .before .before .before .before .has .ensures) (c .before .before .before .before .if1 .left)) (sym (arc-fits (a .targets .now) (a .costs .now) (a .needs .now) (a .spent) (a .q .0) (a .v .0) (c .before .before .before .turned-at .ensures) (omega (arith, c .before .shared-slice-known5 .given (c .before .before .before .turned-at .result))))))
+returns : tie.Need-returns
+returns c = let a = c .before .before .before .before .before .before .before .args in
+    arc-fits (a .targets .now) (a .costs .now) (a .needs .now) (a .spent) (a .q .0) (a .v .0) (c .before .before .before .turned-at .ensures) (omega (arith, c .before .shared-slice-known5 .given (c .before .before .before .turned-at .result)))
 
-pub takeable-spec : {M : Type 1} → statement M
-takeable-spec =
+pub leads-on-spec : {M : Type 1} → statement M
+leads-on-spec =
     tie.close
     (tie.spec
-    has-requires
-    returns
     turned-at-requires
     mul-result
     shared-slice-read-result
@@ -68,4 +58,4 @@ takeable-spec =
     mul-result-2
     shared-slice-read-result-3
     add-result-2
-    returns-2)
+    returns)

@@ -1,0 +1,167 @@
+-- The lowest bit of a number, and the number with that bit taken off, over every width: so the smallest value of a mask, and the rest of it.
+-- Assumes nothing.
+use mathlib.Core.Path.{_≡_, refl, sym, ap, _∙_}
+use mathlib.Core.Bool.{Bool, true, false, cond, not, _&&_, false≢true}
+use Prim.Native.Nat.{ℕ, zero, suc, _-_, _/_, _%_, _^_, _≤_, _<_}
+use native.Mathlib.Nat.{pow-suc}
+use native.Mathlib.Decide.{ℕ-discrete, decLt}
+use native.Mathlib.Omega.{arith}
+use lib.Bits.{bitAnd, and-lt, and-le-r}
+use lib.Count.{trailingZeros, under, trailing-of-zero}
+use lib.Dec.{eqb}
+use borrow.Author.Tests.{eq-eqb, ne-eqb}
+use Rattle.kinds.specs.Bits.{width, bit, firstFrom, smallestOf, restOf}
+use Rattle.kinds.proofs.Bits.{bit-zero, bit-suc, bit-and, bit-none, bit-above, bit-mask, mask-is, mask-lt}
+
+-- THE LOWEST BIT, as the count of trailing zeros has it
+pub low-set : (k n : ℕ) → 0 < n → n < 2 ^ k → bit n (trailingZeros k n) ≡ true
+unfolding trailingZeros
+low-set zero n h l = absurd (omega arith)
+low-set (suc k) n h l = go (n % 2) refl (omega arith) (λ e. low-set k (n / 2) (omega arith) (omega (arith, pow-suc 2 k)))
+  where
+    go : (r : ℕ) → n % 2 ≡ r → r < 2 → (n % 2 ≡ 0 → bit (n / 2) (trailingZeros k (n / 2)) ≡ true) → bit n (under r (trailingZeros k (n / 2))) ≡ true
+    go zero e b ih = bit-suc n (trailingZeros k (n / 2)) ∙ ih e
+    go (suc zero) e b ih = bit-zero n ∙ rw e
+    go (suc (suc r)) e b ih = absurd (omega arith)
+
+-- one less than the number has not that bit, but every other one that the number has
+low-off : (k n : ℕ) → 0 < n → n < 2 ^ k → bit (n - 1) (trailingZeros k n) ≡ false
+unfolding trailingZeros
+low-off zero n h l = absurd (omega arith)
+low-off (suc k) n h l = go (n % 2) refl (omega arith) (λ e. low-off k (n / 2) (omega arith) (omega (arith, pow-suc 2 k)))
+  where
+    go : (r : ℕ) → n % 2 ≡ r → r < 2 → (n % 2 ≡ 0 → bit (n / 2 - 1) (trailingZeros k (n / 2)) ≡ false) → bit (n - 1) (under r (trailingZeros k (n / 2))) ≡ false
+    go zero e b ih =
+        let half : (n - 1) / 2 ≡ n / 2 - 1 = omega arith in
+        bit-suc (n - 1) (trailingZeros k (n / 2)) ∙ rw half (ih e)
+    go (suc zero) e b ih =
+        let even : (n - 1) % 2 ≡ 0 = omega arith in
+        bit-zero (n - 1) ∙ rw even
+    go (suc (suc r)) e b ih = absurd (omega arith)
+
+rest-set : (k n u : ℕ) → 0 < n → n < 2 ^ k → bit n u ≡ true → (u ≡ trailingZeros k n → ⊥) → bit (n - 1) u ≡ true
+unfolding trailingZeros
+rest-set zero n u h l e d = absurd (omega arith)
+rest-set (suc k) n u h l e d = go u (n % 2) refl (omega arith) e d (λ u p e d. rest-set k (n / 2) u (omega arith) (omega (arith, pow-suc 2 k)) e d)
+  where
+    go : (u r : ℕ) → n % 2 ≡ r → r < 2 → bit n u ≡ true → (u ≡ under r (trailingZeros k (n / 2)) → ⊥)
+        → ((u : ℕ) → n % 2 ≡ 0 → bit (n / 2) u ≡ true → (u ≡ trailingZeros k (n / 2) → ⊥) → bit (n / 2 - 1) u ≡ true) → bit (n - 1) u ≡ true
+    go zero zero p b e d ih = absurd (false≢true (sym (bit-zero n ∙ rw p) ∙ e))
+    go (suc u) zero p b e d ih =
+        let half : (n - 1) / 2 ≡ n / 2 - 1 = omega arith in
+        bit-suc (n - 1) u ∙ rw half (ih u p (sym (bit-suc n u) ∙ e) (λ x. d (ap suc x)))
+    go zero (suc r) p b e d ih = absurd (d refl)
+    go (suc u) (suc zero) p b e d ih =
+        let half : (n - 1) / 2 ≡ n / 2 = omega arith in
+        bit-suc (n - 1) u ∙ rw half (sym (bit-suc n u) ∙ e)
+    go (suc u) (suc (suc r)) p b e d ih = absurd (omega arith)
+
+-- the number with its lowest bit taken off
+pub rest-bit : (k n u : ℕ) → 0 < n → n < 2 ^ k → bit (bitAnd n (n - 1)) u ≡ (bit n u && not (eqb u (trailingZeros k n)))
+rest-bit k n u h l = bit-and n (n - 1) u ∙ go (bit n u) refl (ℕ-discrete u (trailingZeros k n))
+  where
+    go : (b : Bool) → bit n u ≡ b → Dec (u ≡ trailingZeros k n) → (b && bit (n - 1) u) ≡ (b && not (eqb u (trailingZeros k n)))
+    go false e d = refl
+    go true e (yes d) = rw (eq-eqb u (trailingZeros k n) d, d, low-off k n h l)
+    go true e (no d) = rw (ne-eqb u (trailingZeros k n) d, rest-set k n u h l e d)
+
+-- a search from bit to bit, the lowest first: p holds of none below n but of those that are left
+pub record Sought (p : ℕ → Bool) (n left : ℕ) : Type 0 where
+  pub none : (u : ℕ) → u < n → bit left u ≡ false → p u ≡ false
+
+pub sought-more : {p : ℕ → Bool} {n : ℕ} (k left : ℕ) → 0 < left → left < 2 ^ k → Sought p n left → p (trailingZeros k left) ≡ false → Sought p n (bitAnd left (left - 1))
+sought-more {p} {n} k left h l s e = record { none = λ u d b. go u d (bit left u) refl (ℕ-discrete u (trailingZeros k left)) (sym (rest-bit k left u h l) ∙ b) }
+  where
+    go : (u : ℕ) → u < n → (b : Bool) → bit left u ≡ b → Dec (u ≡ trailingZeros k left) → (bit left u && not (eqb u (trailingZeros k left))) ≡ false → p u ≡ false
+    go u d false f c z = s .none u d f
+    go u d true f (yes c) z = rw c e
+    go u d true f (no c) z = absurd (false≢true (sym z ∙ rw (f, ne-eqb u (trailingZeros k left) c)))
+
+-- THE SMALLEST VALUE. The count of trailing zeros is the first bit that is set
+first-ext : (p q : ℕ → Bool) → ((v : ℕ) → p v ≡ q v) → (i n : ℕ) → firstFrom p i n ≡ firstFrom q i n
+unfolding firstFrom
+first-ext p q h i zero = refl
+first-ext p q h i (suc n) = rw (h i, first-ext p q h (suc i) n)
+
+first-shift : (p : ℕ → Bool) (i n : ℕ) → firstFrom p (suc i) n ≡ suc (firstFrom (λ v. p (suc v)) i n)
+unfolding firstFrom
+first-shift p i zero = refl
+first-shift p i (suc n) = ap (λ (x : ℕ). cond (p (suc i)) (suc i) x) (first-shift p (suc i) n) ∙ both (p (suc i)) i _
+  where
+    both : (b : Bool) (x y : ℕ) → cond b (suc x) (suc y) ≡ suc (cond b x y)
+    both true x y = refl
+    both false x y = refl
+
+pub zeros-first : (k n : ℕ) → trailingZeros k n ≡ firstFrom (bit n) 0 k
+unfolding trailingZeros firstFrom
+zeros-first zero n = refl
+zeros-first (suc k) n =
+    digit (n % 2) (trailingZeros k (n / 2)) (omega arith)
+    ∙ (ap (λ (b : Bool). cond b 0 (suc (trailingZeros k (n / 2)))) (sym (bit-zero n))
+    ∙ ap (λ (x : ℕ). cond (bit n 0) 0 x)
+    (ap suc (zeros-first k (n / 2) ∙ first-ext (bit (n / 2)) (λ v. bit n (suc v)) (λ v. sym (bit-suc n v)) 0 k) ∙ sym (first-shift (bit n) 0 k)))
+  where
+    digit : (r t : ℕ) → r < 2 → under r t ≡ cond (eqb r 1) 0 (suc t)
+    digit zero t h = refl
+    digit (suc zero) t h = refl
+    digit (suc (suc r)) t h = absurd (omega arith)
+
+pub smallest-is : (m : ℕ) → trailingZeros width m ≡ smallestOf m
+unfolding smallestOf
+smallest-is m = zeros-first width m
+
+-- nothing lies below it
+first-least : (f : ℕ → Bool) (i n u : ℕ) → i ≤ u → u < firstFrom f i n → f u ≡ false
+unfolding firstFrom
+first-least f i zero u h l = absurd (omega arith)
+first-least f i (suc n) u h l = go (f i) refl l (ℕ-discrete u i) (λ k l. first-least f (suc i) n u k l)
+  where
+    go : (b : Bool) → f i ≡ b → u < cond b i (firstFrom f (suc i) n) → Dec (u ≡ i) → (suc i ≤ u → u < firstFrom f (suc i) n → f u ≡ false) → f u ≡ false
+    go true e l d ih = absurd (omega arith)
+    go false e l (yes d) ih = rw d e
+    go false e l (no d) ih = ih (omega arith) l
+
+pub smallest-least : (m u : ℕ) → u < smallestOf m → bit m u ≡ false
+unfolding smallestOf
+smallest-least m u l = first-least (bit m) 0 width u (omega arith) l
+
+-- the empty mask has none, any other has one
+pub smallest-none : (m : ℕ) → m ≡ 0 → smallestOf m ≡ width
+smallest-none m e = rw (e, ← smallest-is 0) (trailing-of-zero width)
+
+pub smallest-some : (m : ℕ) → smallestOf m < width → m ≡ 0 → ⊥
+smallest-some m h e = omega (arith, smallest-none m e)
+
+module _ (m : ℕ) (some : m ≡ 0 → ⊥) (few : m < 2 ^ width) where
+  pub smallest-set : bit m (smallestOf m) ≡ true
+  smallest-set = rw (← smallest-is m) (low-set width m (omega arith) few)
+
+  pub smallest-few : smallestOf m < width
+  smallest-few = go (decLt (smallestOf m) width)
+    where
+      go : Dec (smallestOf m < width) → smallestOf m < width
+      go (yes h) = h
+      go (no h) = absurd (false≢true (sym (bit-above width m (smallestOf m) few (omega arith)) ∙ smallest-set))
+
+  -- the rest of a mask, as the code makes it: it is less
+  pub rest-is : bitAnd m (m - 1) ≡ restOf m
+  unfolding restOf
+  rest-is = mask-is (λ u. bit m u && not (eqb u (smallestOf m))) width (bitAnd m (m - 1)) (and-lt width m (m - 1) few (omega arith))
+      (λ u l. rw (← smallest-is m) (rest-bit width m u (omega arith) few))
+
+  pub rest-less : restOf m < m
+  rest-less = rw (← rest-is) (omega (arith, and-le-r m (m - 1)))
+
+-- the rest of the empty mask
+pub rest-none : (m : ℕ) → m ≡ 0 → m ≡ restOf m
+unfolding restOf
+rest-none m e = mask-is (λ u. bit m u && not (eqb u (smallestOf m))) width m (omega arith) (λ u l. rw (e, bit-none u))
+
+-- what the rest has
+pub rest-few : (m : ℕ) → restOf m < 2 ^ width
+unfolding restOf
+rest-few m = mask-lt (λ u. bit m u && not (eqb u (smallestOf m))) width
+
+pub rest-has : (m u : ℕ) → u < width → bit (restOf m) u ≡ (bit m u && not (eqb u (smallestOf m)))
+unfolding restOf
+rest-has m u l = bit-mask (λ u. bit m u && not (eqb u (smallestOf m))) width u l
