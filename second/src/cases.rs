@@ -34,8 +34,8 @@ impl Scale {
     pub fn any(random: &mut Random) -> Scale {
         match random.below(100) {
             0..=2 => Scale::Full,
-            3..=10 => Scale::Wide,
-            11..=20 => Scale::Middle,
+            3..=14 => Scale::Wide,
+            15..=24 => Scale::Middle,
             _ => Scale::Small,
         }
     }
@@ -162,14 +162,15 @@ pub fn problem(random: &mut Random, scale: Scale) -> Problem {
 }
 
 fn masks(random: &mut Random, places: usize, rules: &Rules, way: &Way) -> Vec<u16> {
-    let style = random.below(6);
+    let style = random.below(9);
     let full = rules.full_mask();
     let mut masks: Vec<u16> = (0..places).map(|_| random.number() as u16 & full).collect();
     match style {
         0 | 1 => masks.fill(full),
         2 => way.steps.iter().zip(&mut masks).for_each(|((value, _), mask)| *mask |= 1 << value),
         3 => masks.iter_mut().for_each(|mask| *mask |= random.number() as u16 & full),
-        _ => repeat(random, full, &mut masks),
+        4 | 5 => repeat(random, full, &mut masks),
+        _ => thin_out(random, rules.values, way, &mut masks),
     }
     if random.percent(4) {
         masks[random.below(places)] = 0;
@@ -201,6 +202,17 @@ fn repeat(random: &mut Random, full: u16, masks: &mut [u16]) {
                 masks[place] = masks[place - turns];
             }
         }
+    }
+}
+
+/// Sparse masks: at each place the way's value, or any where it is stuck, and now and then one or
+/// two more.
+fn thin_out(random: &mut Random, values: usize, way: &Way, masks: &mut [u16]) {
+    let most = random.from_to(1, 3);
+    for (place, mask) in masks.iter_mut().enumerate() {
+        let value = way.steps.get(place).map_or(random.below(values), |(value, _)| *value);
+        *mask = 1 << value;
+        (1..random.from_to(1, most)).for_each(|_| *mask |= 1 << random.below(values));
     }
 }
 
@@ -256,6 +268,18 @@ pub fn work(random: &mut Random, places: usize) -> Vec<u32> {
 mod tests {
     use super::damage::{another_length, damage_masks, damage_sizes, damage_tables};
     use super::*;
+
+    #[test]
+    fn a_third_of_the_problems_have_sparse_masks() {
+        let mut sparse = 0;
+        for case in 0..600 {
+            let mut random = Random::for_case(4, case);
+            let problem = problem(&mut random, Scale::Wide);
+            let few = problem.masks.iter().all(|mask| mask.count_ones() <= 3);
+            sparse += usize::from(few && problem.rules.values > 6 && problem.places > 6);
+        }
+        assert!((60..300).contains(&sparse), "{sparse} sparse");
+    }
 
     #[test]
     fn problems_are_right_and_most_damage_is_seen() {

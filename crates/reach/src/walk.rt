@@ -38,7 +38,8 @@ pub(crate) fn walk(
         let row = (i + 1) * bounds::MOST_STATES;
         let end = row + bounds::MOST_STATES;
         rows::copy(states, &work[row..end], &mut needs);
-        let mut left = Mask(masks[i]);
+        let mask = masks[i];
+        let mut left = Mask(mask);
         let chosen = loop {
             let v = left.smallest();
             if values <= (v.0 as usize) {
@@ -52,7 +53,8 @@ pub(crate) fn walk(
         roster[i] = chosen.0;
         let at = turned_at(q, chosen);
         cost += costs[at] as u32;
-        q = State(targets[at]);
+        let to = targets[at];
+        q = State(to);
         i += 1;
     }
     i == masks.len()

@@ -16,10 +16,10 @@ use Rattle.reach.proofs.walk.walk.Statement.{statement}
 use Rattle.reach.proofs.walk.walk.Tie as tie
 
 abbrev Inv-loop : tie.InvT-loop
-Inv-loop states values targets costs spent masks work roster needs q cost i row end left₀ left = Trying (turned targets costs) needs (getD masks i 0) (q .0) cost values (left .0)
+Inv-loop states values targets costs spent masks work roster needs q cost i row end mask left₀ left = Trying (turned targets costs) needs (getD masks i 0) (q .0) cost values (left .0)
 
 abbrev μ-loop : tie.MeasureT-loop
-μ-loop states values targets costs spent masks work roster needs q cost i row end left₀ left = left .0
+μ-loop states values targets costs spent masks work roster needs q cost i row end mask left₀ left = left .0
 
 abbrev Inv-places : tie.InvT-places
 Inv-places states values targets costs spent masks work roster₀ needs₀ q₀ cost₀ i₀ roster needs q cost i = (i ≤ length masks) × (length needs ≡ 256) × (length roster ≡ length masks) × Walking (turned targets costs) states values (q₀ .0) cost₀ masks work roster₀ roster needs (q .0) cost i
@@ -63,11 +63,11 @@ slice-aggregate-copy c = sym (c .before .before .before .places .inv .1)
 copy-requires : tie.Need-copy-requires Inv-loop μ-loop Inv-places μ-places
 copy-requires c κs = search needs
 
-mul-cost : tie.Need-mul-cost Inv-loop μ-loop Inv-places μ-places
-mul-cost c = search needs
+mul-mask : tie.Need-mul-mask Inv-loop μ-loop Inv-places μ-places
+mul-mask c = search needs
 
-shared-slice-read-cost : tie.Need-shared-slice-read-cost Inv-loop μ-loop Inv-places μ-places
-shared-slice-read-cost c = search needs
+shared-slice-read-mask : tie.Need-shared-slice-read-mask Inv-loop μ-loop Inv-places μ-places
+shared-slice-read-mask c = search needs
 
 loop-holds : tie.Need-loop-holds Inv-loop μ-loop Inv-places μ-places
 loop-holds c = trying-none _ _ _ _ _ _ (omega (arith, c .shared-slice-known5 .given (c .before .before .before .before .before .before .places .i)))
@@ -111,11 +111,11 @@ slice-write-roster c = search needs
 turned-at-requires : tie.Need-turned-at-requires Inv-loop μ-loop Inv-places μ-places
 turned-at-requires c κs = search needs
 
-mul-cost-2 : tie.Need-mul-cost-2 Inv-loop μ-loop Inv-places μ-places
-mul-cost-2 c = omega (arith, c .turned-at .ensures, c .before .before .before .before .before .before .before .before .before .before .before .before .before .before .before .before .before .before .before .before .pre .0 .few-values, c .before .before .before .before .if1 .left, c .before .before .before .before .before .before .before .before .before .before .before .before .before .before .places .inv .3 .state, c .before .before .before .before .before .before .before .before .before .before .before .before .before .before .before .before .before .before .before .before .pre .0 .few-states)
+mul-cost : tie.Need-mul-cost Inv-loop μ-loop Inv-places μ-places
+mul-cost c = omega (arith, c .turned-at .ensures, c .before .before .before .before .before .before .before .before .before .before .before .before .before .before .before .before .before .before .before .before .pre .0 .few-values, c .before .before .before .before .if1 .left, c .before .before .before .before .before .before .before .before .before .before .before .before .before .before .places .inv .3 .state, c .before .before .before .before .before .before .before .before .before .before .before .before .before .before .before .before .before .before .before .before .pre .0 .few-states)
 
-shared-slice-read-cost-2 : tie.Need-shared-slice-read-cost-2 Inv-loop μ-loop Inv-places μ-places
-shared-slice-read-cost-2 c = omega (arith, c .before .turned-at .ensures, c .before .before .before .before .before .before .before .before .before .before .before .before .before .before .before .before .before .before .before .before .before .pre .0 .few-values, c .before .before .before .before .before .if1 .left, c .before .before .before .before .before .before .before .before .before .before .before .before .before .before .before .places .inv .3 .state, c .before .before .before .before .before .before .before .before .before .before .before .before .before .before .before .before .before .before .before .before .before .pre .0 .few-states, c .before .before .before .before .before .before .before .before .before .before .before .before .before .before .before .before .before .before .before .before .before .pre .0 .all-costs)
+shared-slice-read-cost : tie.Need-shared-slice-read-cost Inv-loop μ-loop Inv-places μ-places
+shared-slice-read-cost c = omega (arith, c .before .turned-at .ensures, c .before .before .before .before .before .before .before .before .before .before .before .before .before .before .before .before .before .before .before .before .before .pre .0 .few-values, c .before .before .before .before .before .if1 .left, c .before .before .before .before .before .before .before .before .before .before .before .before .before .before .before .places .inv .3 .state, c .before .before .before .before .before .before .before .before .before .before .before .before .before .before .before .before .before .before .before .before .before .pre .0 .few-states, c .before .before .before .before .before .before .before .before .before .before .before .before .before .before .before .before .before .before .before .before .before .pre .0 .all-costs)
 
 cast-cost : tie.Need-cast-cost Inv-loop μ-loop Inv-places μ-places
 cast-cost c = omega (arith, c .shared-slice-known6 .given (c .before .turned-at .result))
@@ -124,8 +124,8 @@ add-cost : tie.Need-add-cost Inv-loop μ-loop Inv-places μ-places
 unfolding top
 add-cost c = omega (arith, c .shared-slice-known6 .given (c .before .turned-at .result), c .before .before .before .before .before .before .before .before .before .before .before .before .before .before .before .places .inv .3 .low)
 
-shared-slice-read-t44 : tie.Need-shared-slice-read-t44 Inv-loop μ-loop Inv-places μ-places
-shared-slice-read-t44 c = omega (arith, c .before .before .turned-at .ensures, c .before .before .before .before .before .before .before .before .before .before .before .before .before .before .before .before .before .before .before .before .before .before .pre .0 .few-values, c .before .before .before .before .before .before .if1 .left, c .before .before .before .before .before .before .before .before .before .before .before .before .before .before .before .before .places .inv .3 .state, c .before .before .before .before .before .before .before .before .before .before .before .before .before .before .before .before .before .before .before .before .before .before .pre .0 .few-states, c .before .before .before .before .before .before .before .before .before .before .before .before .before .before .before .before .before .before .before .before .before .before .pre .0 .all-targets)
+shared-slice-read-to : tie.Need-shared-slice-read-to Inv-loop μ-loop Inv-places μ-places
+shared-slice-read-to c = omega (arith, c .before .before .turned-at .ensures, c .before .before .before .before .before .before .before .before .before .before .before .before .before .before .before .before .before .before .before .before .before .before .pre .0 .few-values, c .before .before .before .before .before .before .if1 .left, c .before .before .before .before .before .before .before .before .before .before .before .before .before .before .before .before .places .inv .3 .state, c .before .before .before .before .before .before .before .before .before .before .before .before .before .before .before .before .before .before .before .before .before .before .pre .0 .few-states, c .before .before .before .before .before .before .before .before .before .before .before .before .before .before .before .before .before .before .before .before .before .before .pre .0 .all-targets)
 
 add-i : tie.Need-add-i Inv-loop μ-loop Inv-places μ-places
 add-i c = omega (arith, c .before .before .before .before .before .before .before .before .before .before .before .before .before .before .before .before .before .before .before .before .before .before .pre .0 .few-places)
@@ -183,8 +183,8 @@ walk-spec =
     part-copy-end
     slice-aggregate-copy
     copy-requires
-    mul-cost
-    shared-slice-read-cost
+    mul-mask
+    shared-slice-read-mask
     loop-holds
     smallest-requires
     cast-if1
@@ -195,11 +195,11 @@ walk-spec =
     loop-again
     slice-write-roster
     turned-at-requires
-    mul-cost-2
-    shared-slice-read-cost-2
+    mul-cost
+    shared-slice-read-cost
     cast-cost
     add-cost
-    shared-slice-read-t44
+    shared-slice-read-to
     add-i
     places-less
     places-again
