@@ -1,15 +1,15 @@
 -- The lowest bit of a number, and the number with that bit taken off, over every width: so the smallest value of a mask, and the rest of it.
 -- Assumes nothing.
 use mathlib.Core.Path.{_≡_, refl, sym, ap, _∙_}
-use mathlib.Core.Bool.{Bool, true, false, cond, not, _&&_, false≢true}
+use mathlib.Core.Bool.{Bool, true, false, cond, not, _&&_, and-self, and-true, false≢true}
 use Prim.Native.Nat.{ℕ, zero, suc, _-_, _/_, _%_, _^_, _≤_, _<_}
 use native.Mathlib.Nat.{pow-suc}
 use native.Mathlib.Decide.{ℕ-discrete, decLt}
 use native.Mathlib.Omega.{arith}
 use lib.Bits.{bitAnd, and-lt, and-le-r}
 use lib.Count.{trailingZeros, under, trailing-of-zero}
-use lib.Dec.{eqb}
-use borrow.Author.Tests.{eq-eqb, ne-eqb}
+use lib.Dec.{eqb, eqb·suc-suc, eqb·suc-zero}
+use borrow.Author.Tests.{ne-eqb}
 use Rattle.kinds.specs.Bits.{width, bit, firstFrom, smallestOf, restOf}
 use Rattle.kinds.proofs.Bits.{bit-zero, bit-suc, bit-and, bit-none, bit-above, bit-mask, mask-is, mask-lt}
 
@@ -24,46 +24,28 @@ low-set (suc k) n h l = go (n % 2) refl (omega arith) (λ e. low-set k (n / 2) (
     go (suc zero) e b ih = bit-zero n ∙ rw e
     go (suc (suc r)) e b ih = absurd (omega arith)
 
--- one less than the number has not that bit, but every other one that the number has
-low-off : (k n : ℕ) → 0 < n → n < 2 ^ k → bit (n - 1) (trailingZeros k n) ≡ false
+-- the number with that bit taken off: one less than the number has not that bit, but every other one that the number has
+rest-both : (k n u : ℕ) → 0 < n → n < 2 ^ k → (bit n u && bit (n - 1) u) ≡ (bit n u && not (eqb u (trailingZeros k n)))
 unfolding trailingZeros
-low-off zero n h l = absurd (omega arith)
-low-off (suc k) n h l = go (n % 2) refl (omega arith) (λ e. low-off k (n / 2) (omega arith) (omega (arith, pow-suc 2 k)))
+rest-both zero n u h l = absurd (omega arith)
+rest-both (suc k) n u h l = go u (n % 2) refl (omega arith) (λ u e. rest-both k (n / 2) u (omega arith) (omega (arith, pow-suc 2 k)))
   where
-    go : (r : ℕ) → n % 2 ≡ r → r < 2 → (n % 2 ≡ 0 → bit (n / 2 - 1) (trailingZeros k (n / 2)) ≡ false) → bit (n - 1) (under r (trailingZeros k (n / 2))) ≡ false
-    go zero e b ih =
+    go : (u r : ℕ) → n % 2 ≡ r → r < 2 → ((u : ℕ) → n % 2 ≡ 0 → (bit (n / 2) u && bit (n / 2 - 1) u) ≡ (bit (n / 2) u && not (eqb u (trailingZeros k (n / 2)))))
+        → (bit n u && bit (n - 1) u) ≡ (bit n u && not (eqb u (under r (trailingZeros k (n / 2)))))
+    go zero zero e b ih = rw (bit-zero n, e)
+    go (suc u) zero e b ih =
         let half : (n - 1) / 2 ≡ n / 2 - 1 = omega arith in
-        bit-suc (n - 1) (trailingZeros k (n / 2)) ∙ rw half (ih e)
-    go (suc zero) e b ih =
+        rw (bit-suc n u, bit-suc (n - 1) u, half, eqb·suc-suc u (trailingZeros k (n / 2))) (ih u e)
+    go zero (suc zero) e b ih =
         let even : (n - 1) % 2 ≡ 0 = omega arith in
-        bit-zero (n - 1) ∙ rw even
-    go (suc (suc r)) e b ih = absurd (omega arith)
-
-rest-set : (k n u : ℕ) → 0 < n → n < 2 ^ k → bit n u ≡ true → (u ≡ trailingZeros k n → ⊥) → bit (n - 1) u ≡ true
-unfolding trailingZeros
-rest-set zero n u h l e d = absurd (omega arith)
-rest-set (suc k) n u h l e d = go u (n % 2) refl (omega arith) e d (λ u p e d. rest-set k (n / 2) u (omega arith) (omega (arith, pow-suc 2 k)) e d)
-  where
-    go : (u r : ℕ) → n % 2 ≡ r → r < 2 → bit n u ≡ true → (u ≡ under r (trailingZeros k (n / 2)) → ⊥)
-        → ((u : ℕ) → n % 2 ≡ 0 → bit (n / 2) u ≡ true → (u ≡ trailingZeros k (n / 2) → ⊥) → bit (n / 2 - 1) u ≡ true) → bit (n - 1) u ≡ true
-    go zero zero p b e d ih = absurd (false≢true (sym (bit-zero n ∙ rw p) ∙ e))
-    go (suc u) zero p b e d ih =
-        let half : (n - 1) / 2 ≡ n / 2 - 1 = omega arith in
-        bit-suc (n - 1) u ∙ rw half (ih u p (sym (bit-suc n u) ∙ e) (λ x. d (ap suc x)))
-    go zero (suc r) p b e d ih = absurd (d refl)
-    go (suc u) (suc zero) p b e d ih =
+        rw (bit-zero (n - 1), even)
+    go (suc u) (suc zero) e b ih =
         let half : (n - 1) / 2 ≡ n / 2 = omega arith in
-        bit-suc (n - 1) u ∙ rw half (sym (bit-suc n u) ∙ e)
-    go (suc u) (suc (suc r)) p b e d ih = absurd (omega arith)
+        rw (bit-suc n u, bit-suc (n - 1) u, half, eqb·suc-zero u) (and-self (bit (n / 2) u) ∙ sym (and-true (bit (n / 2) u)))
+    go u (suc (suc r)) e b ih = absurd (omega arith)
 
--- the number with its lowest bit taken off
 pub rest-bit : (k n u : ℕ) → 0 < n → n < 2 ^ k → bit (bitAnd n (n - 1)) u ≡ (bit n u && not (eqb u (trailingZeros k n)))
-rest-bit k n u h l = bit-and n (n - 1) u ∙ go (bit n u) refl (ℕ-discrete u (trailingZeros k n))
-  where
-    go : (b : Bool) → bit n u ≡ b → Dec (u ≡ trailingZeros k n) → (b && bit (n - 1) u) ≡ (b && not (eqb u (trailingZeros k n)))
-    go false e d = refl
-    go true e (yes d) = rw (eq-eqb u (trailingZeros k n) d, d, low-off k n h l)
-    go true e (no d) = rw (ne-eqb u (trailingZeros k n) d, rest-set k n u h l e d)
+rest-bit k n u h l = bit-and n (n - 1) u ∙ rest-both k n u h l
 
 -- a search from bit to bit, the lowest first: p holds of none below n but of those that are left
 pub record Sought (p : ℕ → Bool) (n left : ℕ) : Type 0 where

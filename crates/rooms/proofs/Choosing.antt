@@ -48,14 +48,14 @@ choices-last (suc k) m r v h s l e = go (ℕ-discrete k v) (λ h. choices-last k
         rw (e k (omega arith), eq-eqb k v d, and-false (bit m k), choices-none k r (λ u b. e u (omega arith) ∙ rw (l u (omega arith))), d, s, choices-none v m l)
     go (no d) ih = rw (e k (omega arith), ne-eqb k v d, and-true (bit m k)) (step (bit m k) (ih (omega arith)))
 
--- the smallest value of a mask picked, and the rest left
+-- PICKED: the smallest value of a mask, and what is left
 pub record Picked (m v r : ℕ) : Type 0 where
   pub few : m < 2 ^ width
   pub smallest : v ≡ smallestOf m
   pub rest : r ≡ restOf m
 
--- what is left is the end of it, if there was one
-pub choices-end : {m : ℕ} → m ≡ 0 → choices width m ≡ []
+-- the empty mask has no value
+choices-end : {m : ℕ} → m ≡ 0 → choices width m ≡ []
 choices-end {m} e = choices-none width m (λ u l. rw (e, bit-none u))
 
 module _ {m v r : ℕ} (p : Picked m v r) where

@@ -2,6 +2,7 @@ use mathlib.Core.Path.{_≡_, refl, _∙_}
 use mathlib.Core.List.{List}
 use lib.ListN.{length}
 use borrow.Author.Needs.{needs}
+use Rattle.kinds.specs.Bits.{width}
 use Rattle.kinds.proofs.Bits.{mask-lt}
 use Rattle.rooms.specs.Tables.{turned}
 use Rattle.rooms.proofs.Choosing.{Picked, Through, choices-within, picked-few, picked-less, through-none, through-more, through-end}
@@ -24,7 +25,7 @@ meet-requires : tie.Need-meet-requires Inv-loop μ-loop
 meet-requires c κs = search needs
 
 loop-holds : tie.Need-loop-holds Inv-loop μ-loop
-loop-holds c = let a = c .before .before .before .before .before .before .before .args in (refl, through-none _ _ (rw (c .meet .ensures) (mask-lt _ 16)) (keeps-none (turned (a .targets .now) (a .costs .now)) (a .states) (a .front .now) (a .needs .now)), held-none _ _ _ refl)
+loop-holds c = let a = c .before .before .before .before .before .before .before .args in (refl, through-none _ _ (rw (c .meet .ensures) (mask-lt _ width)) (keeps-none (turned (a .targets .now) (a .costs .now)) (a .states) (a .front .now) (a .needs .now)), held-none _ _ _ refl)
 
 smallest-requires : tie.Need-smallest-requires Inv-loop μ-loop
 smallest-requires c κs = search needs

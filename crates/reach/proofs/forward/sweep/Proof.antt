@@ -5,7 +5,7 @@ use lib.ListN.{length, length-take, length-drop}
 use native.Mathlib.Omega.{arith}
 use borrow.Author.Needs.{needs}
 use Rattle.kinds.proofs.Bits.{mask-lt}
-use Rattle.kinds.specs.Bits.{restOf}
+use Rattle.kinds.specs.Bits.{width, restOf}
 use Rattle.rooms.specs.Tables.{turned}
 use Rattle.rooms.proofs.Choosing.{Picked, Through, choices-within, picked-few, picked-less, through-none, through-more, through-end}
 use Rattle.reach.specs.Looks.{Swept}
@@ -26,7 +26,7 @@ meet-requires : tie.Need-meet-requires Inv-loop μ-loop
 meet-requires c κs = search needs
 
 loop-holds : tie.Need-loop-holds Inv-loop μ-loop
-loop-holds c = let a = c .before .before .before .before .before .before .args in (refl, through-none _ _ (rw (c .meet .ensures) (mask-lt _ 16)) (swept-none (a .targets .now) (a .costs .now) (a .states) (a .front .now) (a .onward .now)))
+loop-holds c = let a = c .before .before .before .before .before .before .args in (refl, through-none _ _ (rw (c .meet .ensures) (mask-lt _ width)) (swept-none (a .targets .now) (a .costs .now) (a .states) (a .front .now) (a .onward .now)))
 
 smallest-requires : tie.Need-smallest-requires Inv-loop μ-loop
 smallest-requires c κs = search needs

@@ -2,6 +2,7 @@ use mathlib.Core.Path.{_≡_, refl, _∙_}
 use mathlib.Core.List.{[]}
 use lib.ListN.{length}
 use native.Mathlib.Omega.{arith}
+use Rattle.kinds.specs.Bits.{width}
 use Rattle.kinds.proofs.Bits.{mask-lt}
 use Rattle.rooms.specs.Tables.{turned, roomsBy}
 use Rattle.rooms.proofs.Choosing.{Picked, choices-within, picked-on, picked-few, picked-more, picked-none, four-few, four-on, four-less, four-last}
@@ -23,7 +24,7 @@ meet-requires : tie.Need-meet-requires Inv-loop μ-loop
 meet-requires c κs = search needs
 
 loop-holds : tie.Need-loop-holds Inv-loop μ-loop
-loop-holds c = (refl, going-none _ _ _ _ _ (rw (c .meet .ensures) (mask-lt _ 16)))
+loop-holds c = (refl, going-none _ _ _ _ _ (rw (c .meet .ensures) (mask-lt _ width)))
 
 smallest-requires : tie.Need-smallest-requires Inv-loop μ-loop
 smallest-requires c κs = search needs
