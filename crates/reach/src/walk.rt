@@ -1,9 +1,9 @@
 // The walk along the first roster: at each place the smallest value that leaves a way to the end.
 ghost use mathlib.Core.Path.{_≡_};
-ghost use Prim.Native.Nat.{_+_, _*_, _≤_, _<_};
+ghost use Prim.Native.Nat.{_≤_, _<_};
 ghost use lib.ListN.{length};
-ghost use Rattle.meaning.specs.Bounds.{mostStates, mostValues, tableSize, top};
-ghost use Rattle.rooms.specs.Tables.{turned, Sizes, Low};
+ghost use Rattle.meaning.specs.Bounds.{top};
+ghost use Rattle.rooms.specs.Tables.{turned, Sizes};
 ghost use Rattle.reach.specs.Looks.{LowRows, Walks};
 use crate::forward::leads_on;
 use kinds::Mask;

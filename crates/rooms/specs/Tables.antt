@@ -95,7 +95,7 @@ pub record Lessens (a : Net) (next : ℕ → ℕ) (n : ℕ) (first : Bool) (vs r
   pub goes : (us : List ℕ) → Best a next n first us row → Best a next n false (vs ++ us) row′
   pub left : (q : ℕ) → n ≤ q → getD row′ q 0 ≡ getD row q 0
 
--- values as they were picked, the last one first: none from the first on that is the width
+-- values that were picked from a mask, the last one first: the width stands for none, and nothing behind it counts
 unfoldable pub upToNone : List ℕ → List ℕ
 upToNone [] = []
 upToNone (v ∷ vs) = cond (ltb v width) (upToNone vs ++ (v ∷ [])) []

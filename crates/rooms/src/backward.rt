@@ -203,7 +203,7 @@ pub(crate) fn lessen_by_four(
     }
 }
 
-// A row lessened to what the last values of a mask need, three at most: none from the first on that is the width.
+// A row lessened to what the last values of a mask need, three at most: the width stands for none, and nothing behind it counts.
 pub(crate) fn lessen_rest(
     first: bool,
     states: usize,
