@@ -10,6 +10,7 @@ mod memory;
 mod order;
 mod problems;
 mod sheets;
+mod shuffles;
 mod walks;
 
 use crate::random::Random;
@@ -35,6 +36,7 @@ const FIXED: &[fn(&mut Script)] = &[
     sheets::byte_by_byte,
     jobs::samples,
     jobs::long,
+    shuffles::walk,
 ];
 
 /// What makes the calls of a random case.
@@ -42,8 +44,13 @@ type RandomCase = fn(&mut Random, &mut Script);
 
 /// How many of a hundred random cases are of each kind. One of a problem or text makes some
 /// calls, a session's history up to some two hundred.
-const RANDOM: &[(usize, RandomCase)] =
-    &[(60, problems::case), (18, sheets::case), (15, jobs::case), (7, histories::case)];
+const RANDOM: &[(usize, RandomCase)] = &[
+    (60, problems::case),
+    (18, sheets::case),
+    (15, jobs::case),
+    (5, histories::case),
+    (2, shuffles::case),
+];
 
 /// The cases one after the other: the fixed ones, then random ones until enough calls are made.
 pub struct Cases {

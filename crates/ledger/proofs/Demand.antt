@@ -10,14 +10,14 @@ use native.Mathlib.Omega.{arith}
 use lib.ListN.{length}
 use lib.Seq.{take-at}
 use borrow.Author.Tests.{ltb-true}
-use Rattle.meaning.specs.Meaning.{Rules, Place, places, Decision, Verdict, verdictOf}
+use Rattle.meaning.specs.Meaning.{Rules, Place, places, Decision, Verdict, verdict, verdictOf}
 use Rattle.meaning.proofs.Verdicts.{verdict-answers}
 use Rattle.meaning.proofs.Decisions.{verdict-again}
-use Rattle.rules.specs.Checks.{Handed, OneRuleSet}
+use Rattle.rules.specs.Checks.{Handed, sizesRight, OneRuleSet}
 use Rattle.rules.specs.Answers.{Check, check, decided, workAfter}
 use Rattle.rules.proofs.Checks.{both, Passed, all-passed, size-of, sizes-of}
 use Rattle.rules.proofs.Within.{one-refl}
-use Rattle.ledger.specs.History.{Call, made, memoryAfter, Seen, seen, seenOf, granted, lastHanded, SameRules, stands, marksToPass, standingAfter, Reads, limitsOf, OnHand}
+use Rattle.ledger.specs.History.{Call, made, memoryAfter, Seen, seen, seenOf, granted, lastHanded, SameRules, stands, marksToPass, standingAfter, readOff, limitsOf, OnHand}
 use Rattle.ledger.specs.Sessions.{Opening, Entry, decision, mark, isMark, marks, isDecision, decisions, standing, placesBy, verdictBy, Ask, deciding, marking, goingBack, askChecks, after, backTo}
 use Rattle.ledger.proofs.Bounds.{entryRight, entriesRight, WithinBounds}
 use Rattle.ledger.specs.Readiness.{Left, left, readyChecks}
@@ -89,6 +89,10 @@ module _ (n v : ℕ) (o : Opening) where
   after-within marking es f p = more mark es f refl (omega (arith, f .few)) (omega (arith, ltb-true (marks es) mostMarks (p .0)))
   after-within goingBack es f p = back-within es f
 
+-- the start of sizes that pass their check is a state
+start-right : (h : Handed) → sizesRight (h .places) (h .rules .arcs .states) (h .rules .arcs .values) (h .start) ≡ true → h .start < h .rules .arcs .states
+start-right h e = size-of _ _ _ (sizes-of _ _ _ _ e .size) .start-state
+
 abbrev Inside : Handed → Opening → List Entry → Type 0
 Inside h o es = WithinBounds (h .places) (h .rules .arcs .values) o es
 
@@ -116,7 +120,8 @@ module _ (h k : Handed) (o : Opening) (es : List Entry) (m w : List ℕ) (f : In
 module _ (k : Handed) (o : Opening) where
   data Stepped (a : Ask) (es : List Entry) (m : List ℕ) (x : Left) : Type 0 where
     refused : granted (x .answer) ≡ false → x .memory ≡ m → Stepped a es m x
-    done : granted (x .answer) ≡ true → x .memory ≡ imageOf k o (after a es) → Inside k o (after a es) → Stepped a es m x
+    done : granted (x .answer) ≡ true → x .memory ≡ imageOf k o (after a es) → Inside k o (after a es) → k .start < k .rules .arcs .states
+        → Stepped a es m x
 
   verdict-granted : (ds : List Decision) → granted (verdictBy k o ds .answered) ≡ true
   unfolding granted verdictBy
@@ -152,7 +157,7 @@ module _ (k : Handed) (o : Opening) where
       let i = same-entries h k o es m w f e r in
       rw (same-opening h k o es m w f e r, i)
       (let b = became-granted (after a es) w in
-      done (b .0) (b .1) (after-within (k .places) (k .rules .arcs .values) o a es (same-inside h k o es m w f e r) (rw i at q))))
+      done (b .0) (b .1) (after-within (k .places) (k .rules .arcs .values) o a es (same-inside h k o es m w f e r) (rw i at q)) (start-right k (r .0))))
 
 -- j times back
 backs : ℕ → List Entry → List Entry
@@ -212,6 +217,7 @@ module _ (o : Opening) where
     entries : List Entry
     inside : Inside h o entries
     image : m ≡ imageOf h o entries
+    start-state : h .start < h .rules .arcs .states
     as-seen : (j : ℕ) → standingAfter j log ≡ standing (backs j entries)
 
   step-on : (h : Handed) (c : Call) (m : List ℕ) (log : List Seen) → Reached h m log
@@ -225,49 +231,48 @@ module _ (o : Opening) where
             entries = r .entries;
             inside = r .inside;
             image = r .image;
+            start-state = r .start-state;
             as-seen = stands-refused (r .entries) log (r .as-seen) (c .ask) (x .answer) e;
           })
-      go x (done e i f) =
+      go x (done e i f l) =
           rw e (record {
             entries = after (c .ask) (r .entries);
             inside = f;
             image = i;
+            start-state = l;
             as-seen = stands-done (r .entries) log (r .as-seen) (c .ask) (x .answer) e;
           })
 
-  reads-of : (h : Handed) (es : List Entry) → Inside h o es → Reads (h .places) (imageOf h o es) (verdictBy h o (standing es))
-  unfolding imageOf shownOf
-  reads-of h es f = record {
-    result = refl;
-    least = refl;
-    kept = take-at (verdictBy h o (standing es) .masks) _ (h .places) (verdict-by-long h o (standing es) (f .masks-long) (f .limits-long));
-  }
+  reads-of : (h : Handed) (es : List Entry) → Inside h o es → readOff (h .places) (imageOf h o es) ≡ verdictBy h o (standing es)
+  unfolding imageOf shownOf readOff
+  reads-of h es f =
+      let t : Verdict = verdictBy h o (standing es) in
+      ap (λ (ks : List ℕ). verdict (t .answered) ks (t .cheapest))
+      (take-at (t .masks) _ (h .places) (verdict-by-long h o (standing es) (f .masks-long) (f .limits-long)))
 
 -- what is kept tells the same once more, whatever it is read from
-on-hand : (h : Handed) (o : Opening) (ds : List Decision) (m : List ℕ) → Reads (h .places) m (verdictBy h o ds) → wellFormed h m ≡ true → OnHand h o ds m
+on-hand : (h : Handed) (o : Opening) (ds : List Decision) (m : List ℕ) → readOff (h .places) m ≡ verdictBy h o ds → wellFormed h m ≡ true → OnHand h o ds m
 unfolding verdictBy
 on-hand h o ds m r f = record {
   session-tells = r;
   session-again =
-      ap (λ (ks : List ℕ). verdictOf (h .rules) (h .start) 0 (places ks (limitsOf (placesBy o ds)))) (r .kept)
+      ap (λ (t : Verdict). verdictOf (h .rules) (h .start) 0 (places (t .masks) (limitsOf (placesBy o ds)))) r
       ∙ again (h .rules) (h .start) (placesBy o ds);
   session-formed = f;
 }
 
 -- it is on hand for one rule set, however it was handed in
-reads-same : (m : List ℕ) (n k : ℕ) (t u : Verdict) → n ≡ k → t ≡ u → Reads k m u → Reads n m t
-reads-same m n k t u a b r = rw (a, b) r
-
 on-hand-alike : (h k : Handed) (o : Opening) (ds : List Decision) (m : List ℕ) → OneRuleSet h k → h .start < h .rules .arcs .states → OnHand k o ds m → OnHand h o ds m
 on-hand-alike h k o ds m one state t =
-    on-hand h o ds m (reads-same m _ _ _ _ (one .places) (verdict-by-alike h k one state o ds) (t .session-tells))
+    on-hand h o ds m (ap (λ (n : ℕ). readOff n m) (one .places) ∙ t .session-tells ∙ sym (verdict-by-alike h k one state o ds))
     (formed-alike h k one state m ∙ t .session-formed)
 
 module _ (h : Handed) (o : Opening) where
-  reached : (m : List ℕ) → m ≡ imageOf h o [] → Inside h o [] → (cs : List Call) → Reached o (lastHanded h m cs) (memoryAfter m cs) (seenOf m cs)
+  reached : (m : List ℕ) → m ≡ imageOf h o [] → Inside h o [] → h .start < h .rules .arcs .states → (cs : List Call)
+      → Reached o (lastHanded h m cs) (memoryAfter m cs) (seenOf m cs)
   unfolding memoryAfter seenOf lastHanded
-  reached m e f [] = record { entries = []; inside = f; image = e; as-seen = nothing-stands }
-  reached m e f (c ∷ cs) = step-on o (lastHanded h m cs) c (memoryAfter m cs) (seenOf m cs) (reached m e f cs)
+  reached m e f l [] = record { entries = []; inside = f; image = e; start-state = l; as-seen = nothing-stands }
+  reached m e f l (c ∷ cs) = step-on o (lastHanded h m cs) c (memoryAfter m cs) (seenOf m cs) (reached m e f l cs)
 
   -- where every call not refused was handed the opening's rule set, so was the newest
   same-rules : (m : List ℕ) (cs : List Call) → SameRules h m cs → OneRuleSet h (lastHanded h m cs)
@@ -305,20 +310,38 @@ module _ (h : Handed) (o : Opening) where
           open-few = omega arith;
         }
 
+-- what an opening that is not refused and any calls come to
+module _ (h : Handed) (o : Opening) (m w : List ℕ) (cs : List Call) (e : granted (opened h o m w .answer) ≡ true) where
+  abbrev begins : List ℕ
+  begins = opened h o m w .memory
+
+  comes-to : Reached o (lastHanded h begins cs) (memoryAfter begins cs) (seenOf begins cs)
+  comes-to =
+      let p = opening-passed h o m w e in
+      reached h o begins (opening-image h o m w p) (opening-within h o m w p) (start-right h (p .0)) cs
+
+  -- the newest call not refused was handed as many places as the opening has masks
+  pub session-places : length (o .masks) ≡ lastHanded h begins cs .places
+  session-places = comes-to .inside .masks-long
+
 -- For any calls, each handed anything: by what the newest call not refused was handed
 pub session-last : (h : Handed) (o : Opening) (m w : List ℕ) (cs : List Call) → granted (opened h o m w .answer) ≡ true
     → OnHand (lastHanded h (opened h o m w .memory) cs) o (standingAfter 0 (seenOf (opened h o m w .memory) cs)) (memoryAfter (opened h o m w .memory) cs)
 unfolding backs
 session-last h o m w cs e =
-    let p = opening-passed h o m w e in
     let k : Handed = lastHanded h (opened h o m w .memory) cs in
-    let r = reached h o (opened h o m w .memory) (opening-image h o m w p) (opening-within h o m w p) cs in
+    let r = comes-to h o m w cs e in
     on-hand k o _ _ (rw (r .image, r .as-seen 0) (reads-of o k (r .entries) (r .inside))) (rw (r .image) (image-right k o (r .entries) (r .inside)))
+
+-- the same by any k that is one rule set with that
+pub session-by : (k h : Handed) (o : Opening) (m w : List ℕ) (cs : List Call) → granted (opened h o m w .answer) ≡ true
+    → OneRuleSet k (lastHanded h (opened h o m w .memory) cs)
+    → OnHand k o (standingAfter 0 (seenOf (opened h o m w .memory) cs)) (memoryAfter (opened h o m w .memory) cs)
+session-by k h o m w cs e one =
+    on-hand-alike k _ o _ _ one (rw (one .start, one .rules .states) (comes-to h o m w cs e .start-state)) (session-last h o m w cs e)
 
 -- DEMAND 3, where every call not refused was handed the opening's rule set
 pub demand-3 : (h : Handed) (o : Opening) (m w : List ℕ) (cs : List Call) → granted (opened h o m w .answer) ≡ true
     → SameRules h (opened h o m w .memory) cs
     → OnHand h o (standingAfter 0 (seenOf (opened h o m w .memory) cs)) (memoryAfter (opened h o m w .memory) cs)
-demand-3 h o m w cs e s =
-    on-hand-alike h _ o _ _ (same-rules h o (opened h o m w .memory) cs s)
-    (size-of _ _ _ (sizes-of _ _ _ _ (opening-passed h o m w e .0) .size) .start-state) (session-last h o m w cs e)
+demand-3 h o m w cs e s = session-by h h o m w cs e (same-rules h o (opened h o m w .memory) cs s)

@@ -8,3 +8,4 @@ pub mod WellFormed
 pub mod Unique
 pub mod Alike
 pub mod Demand
+pub mod AnyOrder

@@ -4,13 +4,13 @@ use mathlib.Core.Bool.{Bool, true, cond, _||_}
 use mathlib.Core.List.{List, [], _∷_, _++_}
 use Prim.Native.Nat.{ℕ, zero, suc}
 use lib.Dec.{eqb}
-use lib.ListN.{getD, take, drop}
-use Rattle.meaning.specs.Meaning.{Place, places, Decision, Verdict, verdictOf}
+use lib.ListN.{length, getD, take, drop}
+use Rattle.meaning.specs.Meaning.{Place, places, Decision, Verdict, verdict, verdictOf}
 use Rattle.rules.specs.Checks.{Handed, OneRuleSet}
 use Rattle.ledger.specs.Sessions.{Opening, placesBy, verdictBy, Ask, deciding, marking, goingBack}
 use Rattle.ledger.specs.Readiness.{Left}
 use Rattle.ledger.specs.Memory.{wellFormed}
-use Rattle.ledger.specs.Calls.{called}
+use Rattle.ledger.specs.Calls.{called, opened}
 
 -- a call: what it is handed and asks, and the work table that it is lent
 pub record Call : Type 0 where
@@ -73,11 +73,9 @@ standingAfter j [] = []
 standingAfter j (s ∷ h) =
     cond (granted (s .answer)) (standingAfter (marksToPass j (s .ask)) h ++ stands j (s .ask)) (standingAfter j h)
 
--- what is read at the fixed places of the memory: the result, the least cost and the kept masks
-pub record Reads (n : ℕ) (m : List ℕ) (t : Verdict) : Type 0 where
-  pub result : getD m 0 0 ≡ t .answered
-  pub least : getD m 1 0 ≡ t .cheapest
-  pub kept : take n (drop 2 m) ≡ t .masks
+-- what is read at the fixed places of the memory of a session of n places: the result, the kept masks and the least cost
+unfoldable pub readOff : ℕ → List ℕ → Verdict
+readOff n m = verdict (getD m 0 0) (take n (drop 2 m)) (getD m 1 0)
 
 -- the limits of places
 unfoldable pub limitsOf : List Place → List ℕ
@@ -87,6 +85,28 @@ limitsOf (p ∷ ps) = p .limit ∷ limitsOf ps
 -- DEMAND 3, of the rule set h, the opening o, the decisions ds and the memory m: what is read is what a filter tells of the opening with the
 -- decisions; the kept masks, filtered once more under the limits then in force, tell the same; and the memory is well-formed, as answer 12 has it
 pub record OnHand (h : Handed) (o : Opening) (ds : List Decision) (m : List ℕ) : Type 0 where
-  pub session-tells : Reads (h .places) m (verdictBy h o ds)
-  pub session-again : verdictOf (h .rules) (h .start) 0 (places (take (h .places) (drop 2 m)) (limitsOf (placesBy o ds))) ≡ verdictBy h o ds
+  pub session-tells : readOff (h .places) m ≡ verdictBy h o ds
+  pub session-again : verdictOf (h .rules) (h .start) 0 (places (readOff (h .places) m .masks) (limitsOf (placesBy o ds))) ≡ verdictBy h o ds
   pub session-formed : wellFormed h m ≡ true
+
+-- a session from the opening o: what the opening was handed and lent, and the calls since
+pub record Session (o : Opening) : Type 0 where
+  pub handed : Handed
+  pub memory : List ℕ
+  pub work : List ℕ
+  pub calls : List Call
+
+-- of a session: what the opening answers and leaves, what the newest call not refused was handed, the decisions neither refused nor
+-- taken back, and what is read at the fixed places of the memory then
+module _ {o : Opening} (s : Session o) where
+  abbrev pub begun : Left
+  begun = opened (s .handed) o (s .memory) (s .work)
+
+  abbrev pub newestHanded : Handed
+  newestHanded = lastHanded (s .handed) (begun .memory) (s .calls)
+
+  abbrev pub decisionsOf : List Decision
+  decisionsOf = standingAfter 0 (seenOf (begun .memory) (s .calls))
+
+  abbrev pub shows : Verdict
+  shows = readOff (length (o .masks)) (memoryAfter (begun .memory) (s .calls))

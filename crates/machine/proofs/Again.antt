@@ -3,14 +3,14 @@ use mathlib.Core.Path.{_≡_, ap, _∙_}
 use mathlib.Core.Bool.{true}
 use mathlib.Core.List.{List}
 use Prim.Native.Nat.{ℕ}
-use lib.ListN.{length, drop, take}
+use lib.ListN.{length}
 use Rattle.meaning.specs.Meaning.{Decision, Verdict}
 use Rattle.meaning.specs.Bounds.{workSize}
 use Rattle.rules.specs.Checks.{Handed, masksRight}
 use Rattle.rules.proofs.Lawful.{kept-right}
 use Rattle.ledger.specs.Sessions.{Opening, placesBy, verdictBy}
 use Rattle.ledger.specs.Calls.{opened}
-use Rattle.ledger.specs.History.{Call, memoryAfter, seenOf, granted, SameRules, standingAfter, limitsOf}
+use Rattle.ledger.specs.History.{Call, memoryAfter, seenOf, granted, SameRules, standingAfter, readOff, limitsOf}
 use Rattle.ledger.proofs.Checked.{lengths-of}
 use Rattle.ledger.proofs.WellFormed.{places-by-long, verdict-by-long}
 use Rattle.ledger.proofs.Demand.{limits-length, opening-passed, demand-3}
@@ -28,11 +28,13 @@ module _ (h : Handed) (o : Opening) (m w : List ℕ) (cs : List Call) (answered 
   ds = standingAfter 0 (seenOf (opened h o m w .memory) cs)
 
   abbrev kept : List ℕ
-  kept = take (h .places) (drop 2 memory)
+  kept = readOff (h .places) memory .masks
 
   kept-range : masksRight (h .rules .arcs .values) kept ≡ true
   unfolding verdictBy
-  kept-range = ap (masksRight (h .rules .arcs .values)) (demand-3 h o m w cs answered same .session-tells .kept) ∙ kept-right (h .rules) (h .start) 0 (placesBy o ds)
+  kept-range =
+      ap (λ (t : Verdict). masksRight (h .rules .arcs .values) (t .masks)) (demand-3 h o m w cs answered same .session-tells)
+      ∙ kept-right (h .rules) (h .start) 0 (placesBy o ds)
 
   pub filter-again : (out work : List ℕ) → length out ≡ h .places → length work ≡ workSize (h .places)
       → filterOf h kept (limitsOf (placesBy o ds)) out work ≡ filterDone (verdictBy h o ds) work
@@ -41,6 +43,6 @@ module _ (h : Handed) (o : Opening) (m w : List ℕ) (cs : List Call) (answered 
       let l = lengths-of (h .places) _ _ o (length m) (length w) (p .1 .0) in
       let t = demand-3 h o m w cs answered same in
       filter-passes h kept (limitsOf (placesBy o ds)) out work (p .0) (l .tabled) (p .1 .1 .0) kept-range
-      (ap length (t .session-tells .kept) ∙ verdict-by-long h o ds (l .masks-are) (l .limits-are))
+      (ap (λ (x : Verdict). length (x .masks)) (t .session-tells) ∙ verdict-by-long h o ds (l .masks-are) (l .limits-are))
       (limits-length (placesBy o ds) ∙ places-by-long h o ds (l .masks-are) (l .limits-are)) a b
       ∙ ap (λ (x : Verdict). filterDone x work) (t .session-again)

@@ -1,10 +1,10 @@
 -- What decisions do to what is told: their order does not matter, and more of them never give back; and what is kept, filtered once
 -- more under the same limits, tells the same.
 use mathlib.Core.Path.{_≡_, refl, sym, ap, ap₂, _∙_, subst}
-use mathlib.Core.Bool.{Bool, true, false, _&&_, false≢true, and-assoc, and-comm}
+use mathlib.Core.Bool.{Bool, true, false≢true}
 use mathlib.Core.List.{List, [], _∷_, _++_, map, Memᴰ·map, Memᴰ·of-map}
-use mathlib.Core.List.{List·Memᴰ as In, List·Permᴰ as SameUpToOrder, List·Permᴰ·nil as nil, List·Permᴰ·cons as cons, List·Permᴰ·swap as swap, List·Permᴰ·trans as trans}
-use Prim.Native.Nat.{ℕ, zero, suc, _+_, _≤_, _<_, min}
+use mathlib.Core.List.{List·Memᴰ as In}
+use Prim.Native.Nat.{ℕ, zero, suc, _+_, _<_, min}
 use native.Mathlib.Omega.{arith}
 use lib.Bits.{bitAnd}
 use lib.ListN.{length, getD, set}
@@ -12,10 +12,12 @@ use borrow.Author.Tests.{eqb-true, eq-eqb}
 use Rattle.kinds.specs.Bits.{bit}
 use Rattle.meaning.specs.Meaning.{Rules, target, cost, total, Place, place, places, allowed, words, rosters, has, verdictOn, verdictOf, Decision, Keep, Limit, decide, decides}
 use Rattle.meaning.specs.Lists.{any, all}
+use Rattle.meaning.specs.Comparing.{SameUpToOrder, Contains, NoMore}
 use Rattle.meaning.proofs.Narrow.{meets, narrows, length-change}
+use Rattle.meaning.proofs.Comparing.{all-contained}
 use Rattle.meaning.proofs.Members.{Below, goes, words-in, roster-in, length-places, least-in, least-le, answer-map}
-use Rattle.meaning.proofs.Kept.{kept-length, kept-has}
-use Rattle.meaning.proofs.Lists.{those-in, those-same, any-in, in-any, both-ways}
+use Rattle.meaning.proofs.Kept.{kept-length, kept-has, kept-inside}
+use Rattle.meaning.proofs.Lists.{those-in, in-those, those-same, any-in, in-any, both-ways}
 
 -- decisions leave the number of places
 pub length-decides : (ps : List Place) (ds : List Decision) → length (decides ps ds) ≡ length ps
@@ -24,53 +26,52 @@ length-decides ps [] = refl
 length-decides ps (Keep i m ∷ ds) = length-decides (decide ps (Keep i m)) ds ∙ length-change _ i ps
 length-decides ps (Limit i l ∷ ds) = length-decides (decide ps (Limit i l)) ds ∙ length-change _ i ps
 
--- the order of a list does not matter to what all of it meet
-pub all-same : {A : Type 0} (f : A → Bool) {xs ys : List A} → SameUpToOrder xs ys → all f xs ≡ all f ys
-all-same f nil = refl
-all-same f (cons e s) = ap₂ (λ (a b : Bool). a && b) (ap f e) (all-same f s)
-all-same f (swap {a} {b} {a′} {b′} {l} e k) =
-    sym (and-assoc (f a) (f b) (all f l))
-    ∙ (ap (λ (x : Bool). x && all f l) (and-comm (f a) (f b) ∙ ap₂ (λ (x y : Bool). x && y) (ap f k) (ap f e))
-    ∙ and-assoc (f a′) (f b′) (all f l))
-all-same f (trans s t) = all-same f s ∙ all-same f t
-
--- the same decisions up to order tell the same
-pub any-order : (r : Rules) (q c : ℕ) (ps : List Place) {ds es : List Decision} → SameUpToOrder ds es → verdictOf r q c (decides ps ds) ≡ verdictOf r q c (decides ps es)
-unfolding verdictOf
-any-order r q c ps {ds} {es} s =
-    ap₂ (verdictOn (r .arcs) q c) (length-decides ps ds ∙ sym (length-decides ps es))
-    (narrows r q c ps ds
-    ∙ (those-same _ _ (rosters r q c ps) (λ w m. all-same (λ d. meets (r .arcs) q c d w) s) ∙ sym (narrows r q c ps es)))
-
 -- two lists of decisions taken together: the one, then the other
 pub decides-append : (ps : List Place) (ds es : List Decision) → decides ps (ds ++ es) ≡ decides (decides ps ds) es
 unfolding decides
 decides-append ps [] es = refl
 decides-append ps (d ∷ ds) es = decides-append (decide ps d) ds es
 
--- what further decisions leave
-module _ (r : Rules) (q c : ℕ) (ps : List Place) (ds : List Decision) where
-  -- a roster that is left was there before
-  pub remains : (w : List ℕ) → In w (rosters r q c (decides ps ds)) → In w (rosters r q c ps)
-  remains w m = those-in (λ w. all (λ d. meets (r .arcs) q c d w) ds) (rosters r q c ps) (rw (narrows r q c ps ds) at m) .0
+-- decisions ds beside decisions es, upon the same places
+module _ (r : Rules) (q c : ℕ) (ps : List Place) (ds es : List Decision) where
+  abbrev met : List Decision → List ℕ → Bool
+  met ds w = all (λ d. meets (r .arcs) q c d w) ds
 
-  -- a struck value never comes back
-  pub no-return : (i v : ℕ) → i < length ps → v < r .arcs .values
-      → bit (getD (verdictOf r q c (decides ps ds) .masks) i 0) v ≡ true → bit (getD (verdictOf r q c ps .masks) i 0) v ≡ true
-  unfolding verdictOf
-  no-return i v h k e =
-      let ws : List (List ℕ) = rosters r q c (decides ps ds) in
-      let t = any-in (has i v) ws (sym (kept-has (r .arcs .values) (length (decides ps ds)) ws i v (omega (arith, length-decides ps ds)) k) ∙ e) in
-      kept-has (r .arcs .values) (length ps) (rosters r q c ps) i v h k ∙ in-any (has i v) (remains (t .0) (t .1)) (t .2)
+  abbrev leave : List Decision → List (List ℕ)
+  leave ds = rosters r q c (decides ps ds)
 
-  -- the least cost never falls while a roster is left
-  pub no-cheaper : verdictOf r q c (decides ps ds) .answered ≡ 0 → verdictOf r q c ps .cheapest ≤ verdictOf r q c (decides ps ds) .cheapest
+  -- the same up to order, they tell the same
+  pub any-order : SameUpToOrder ds es → verdictOf r q c (decides ps ds) ≡ verdictOf r q c (decides ps es)
   unfolding verdictOf
-  no-cheaper h =
-      let f = total (r .arcs) q c in
-      let ws : List (List ℕ) = rosters r q c (decides ps ds) in
-      let t = Memᴰ·of-map f ws (least-in (map f ws) (answer-map f ws ∙ h)) in
-      omega (arith, least-le (f (t .0)) (map f (rosters r q c ps)) (Memᴰ·map f (remains (t .0) (t .1))), t .2)
+  any-order s =
+      ap₂ (verdictOn (r .arcs) q c) (length-decides ps ds ∙ sym (length-decides ps es))
+      (narrows r q c ps ds ∙ (those-same (met ds) (met es) (rosters r q c ps) (λ w m. same w) ∙ sym (narrows r q c ps es)))
+    where
+      same : (w : List ℕ) → met ds w ≡ met es w
+      same w = both-ways (met ds w) (met es w) (all-contained _ ds es (λ d. omega (arith, s d))) (all-contained _ es ds (λ d. omega (arith, s d)))
+
+  -- with more put in, they leave no roster that the others do not leave
+  remains : Contains ds es → (w : List ℕ) → In w (leave ds) → In w (leave es)
+  remains k w m =
+      let t = those-in (met ds) (rosters r q c ps) (rw (narrows r q c ps ds) at m) in
+      rw (narrows r q c ps es) (in-those (met es) (t .0) (all-contained _ ds es k (t .1)))
+
+  -- so they tell no more: a struck value never comes back, and the least cost never falls while a roster is left
+  pub no-more : Contains ds es → NoMore (verdictOf r q c (decides ps ds)) (verdictOf r q c (decides ps es))
+  unfolding verdictOf
+  no-more k = record {
+    no-return =
+        λ i v e.
+        let s = kept-inside (r .arcs .values) (length (decides ps ds)) (leave ds) i v e in
+        let t = any-in (has i v) (leave ds) (sym (kept-has (r .arcs .values) (length (decides ps ds)) (leave ds) i v (s .0) (s .1)) ∙ e) in
+        kept-has (r .arcs .values) (length (decides ps es)) (leave es) i v (omega (arith, s .0, length-decides ps ds, length-decides ps es)) (s .1)
+        ∙ in-any (has i v) (remains k (t .0) (t .1)) (t .2);
+    no-cheaper =
+        λ h.
+        let f = total (r .arcs) q c in
+        let t = Memᴰ·of-map f (leave ds) (least-in (map f (leave ds)) (answer-map f (leave ds) ∙ h)) in
+        omega (arith, least-le (f (t .0)) (map f (leave es)) (Memᴰ·map f (remains k (t .0) (t .1))), t .2);
+  }
 
 -- an allowed roster's values are in the masks
 has-chosen : (r : Rules) (q c : ℕ) (ms ls w : List ℕ) (i v : ℕ) → allowed r q c (places ms ls) w ≡ true → has i v w ≡ true → bit (getD ms i 0) v ≡ true

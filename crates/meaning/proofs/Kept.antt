@@ -1,15 +1,16 @@
 -- The kept masks: their bits, their bound, and that nothing else has both; the first roster of a kept value; what no roster leaves.
 use mathlib.Core.Path.{_≡_, refl, sym, ap, _∙_}
-use mathlib.Core.Bool.{Bool, true, false, cond, _||_}
+use mathlib.Core.Bool.{Bool, true, false, cond, _||_, false≢true}
 use mathlib.Core.List.{List, [], _∷_, map}
 use Prim.Native.Nat.{ℕ, zero, suc, _+_, _^_, _<_}
 use native.Mathlib.Nat.{zero-add}
+use native.Mathlib.Decide.{decLt}
 use native.Mathlib.Omega.{arith}
-use lib.ListN.{length, getD, take, replicate, length-replicate, getD-replicate}
+use lib.ListN.{length, getD, take, replicate, length-replicate, getD-replicate, List·getD-eq-default as getD-eq-default}
 use lib.Pow.{pow-pos}
 use lib.Seq.{ext-getD}
 use Rattle.kinds.specs.Bits.{bit}
-use Rattle.kinds.proofs.Bits.{bit-none, bit-mask, mask-lt, mask-is}
+use Rattle.kinds.proofs.Bits.{bit-none, bit-above, bit-mask, mask-lt, mask-is}
 use Rattle.meaning.specs.Meaning.{Rules, Place, rosters, has, keptAt, kept, first, answer, verdict, verdictOn, verdictOf}
 use Rattle.meaning.specs.Lists.{from, those, any}
 
@@ -47,6 +48,17 @@ kept-at vs n ws i h = at-from (keptAt vs ws) 0 n i h ∙ ap (keptAt vs ws) (zero
 -- a value is in the kept mask at i exactly if some roster has it there
 pub kept-has : (vs n : ℕ) (ws : List (List ℕ)) (i v : ℕ) → i < n → v < vs → bit (getD (kept vs n ws) i 0) v ≡ any (has i v) ws
 kept-has vs n ws i v h k = ap (λ (x : ℕ). bit x v) (kept-at vs n ws i h) ∙ kept-bit vs ws i v k
+
+-- what is in a kept mask is one of the values, at one of the places
+pub kept-inside : (vs n : ℕ) (ws : List (List ℕ)) (i v : ℕ) → bit (getD (kept vs n ws) i 0) v ≡ true → (i < n) × (v < vs)
+kept-inside vs n ws i v e = go (decLt i n) (decLt v vs)
+  where
+    go : Dec (i < n) → Dec (v < vs) → (i < n) × (v < vs)
+    go (yes h) (yes k) = (h, k)
+    go (yes h) (no k) =
+        absurd (false≢true (sym (bit-above vs (keptAt vs ws i) v (kept-lt vs ws i) (omega arith)) ∙ rw (kept-at vs n ws i h) at e))
+    go (no h) k =
+        absurd (false≢true (sym (bit-none v) ∙ rw (getD-eq-default (kept vs n ws) 0 {n = i} (omega (arith, kept-length vs n ws))) at e))
 
 -- n masks below 2 ^ vs whose bits are the values that some roster has there are the kept masks
 pub kept-unique : (vs n : ℕ) (ws : List (List ℕ)) (ms : List ℕ) → length ms ≡ n

@@ -1,4 +1,5 @@
 pub mod Bounds
 pub mod Lists
 pub mod Meaning
+pub mod Comparing
 pub mod Worked

@@ -1,11 +1,11 @@
--- The sheet W of the paper, about the definitions: what it accepts, and K1 to K12 as one statement over one table.
+-- The sheet W of the paper, about the definitions: what it accepts, K1 to K12 as one statement over one table, and decisions in two orders.
 use mathlib.Core.Path.{_≡_, refl}
 use mathlib.Core.List.{List, [], _∷_, map}
 use Prim.Native.Nat.{ℕ}
 use Rattle.kinds.specs.Bits.{bit, maskOf}
 use Rattle.meaning.specs.Bounds.{top}
 use Rattle.meaning.specs.Lists.{those}
-use Rattle.meaning.specs.Meaning.{Rules, accepted, words, places, rosters, kept, keptAt, first, verdictOf}
+use Rattle.meaning.specs.Meaning.{Rules, accepted, words, places, rosters, kept, keptAt, first, Verdict, verdict, verdictOf, Decision, Keep, Limit, decide, decides}
 
 -- the sheet W: a row of three for each of its states, 255 where there is no arc; 61 has the bits of its final states 0, 2, 3, 4 and 5
 unfoldable pub W : Rules
@@ -100,3 +100,19 @@ table =
 pub worked : map said table ≡ table
 unfolding W table top places bit maskOf rosters kept keptAt first verdictOf
 worked = refl
+
+-- WHO DECIDED FIRST: two masks and two limits in two orders, the other mask and the other limit coming last; then half of them. With
+-- mask 3 and mask 6, e is left at place 0; within 2 after place 1, exe and exx. The first halves leave ddx besides
+unfoldable pub orders : List (List Decision)
+orders =
+    (Keep 0 3 ∷ Limit 1 2 ∷ Keep 0 6 ∷ Limit 1 4 ∷ [])
+    ∷ (Limit 1 4 ∷ Keep 0 6 ∷ Keep 0 3 ∷ Limit 1 2 ∷ [])
+    ∷ (Keep 0 3 ∷ Limit 1 2 ∷ [])
+    ∷ []
+
+abbrev after : List Decision → Verdict
+after ds = verdictOf W 0 0 (decides (places (7 ∷ 7 ∷ 7 ∷ []) (free ∷ free ∷ free ∷ [])) ds)
+
+pub either-order : map after orders ≡ verdict 0 (2 ∷ 4 ∷ 6 ∷ []) 2 ∷ verdict 0 (2 ∷ 4 ∷ 6 ∷ []) 2 ∷ verdict 0 (3 ∷ 5 ∷ 6 ∷ []) 2 ∷ []
+unfolding W orders top places bit maskOf rosters kept keptAt verdictOf decide decides
+either-order = refl

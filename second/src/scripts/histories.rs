@@ -27,7 +27,7 @@ pub fn case(random: &mut Random, script: &mut Script) {
 }
 
 /// What a session opens with: mostly, but not always, some roster is allowed.
-fn opening(random: &mut Random, scale: Scale) -> Problem {
+pub fn opening(random: &mut Random, scale: Scale) -> Problem {
     let mut problem = cases::problem(random, scale);
     while tables::filter(&problem.case()).is_none() && random.percent(90) {
         problem = cases::problem(random, scale);
@@ -36,7 +36,7 @@ fn opening(random: &mut Random, scale: Scale) -> Problem {
 }
 
 /// A call that the history does not go on from, whether it was refused or not.
-fn damaged_call(random: &mut Random, script: &mut Script, right: &Lent, mut call: Call) {
+pub fn damaged_call(random: &mut Random, script: &mut Script, right: &Lent, mut call: Call) {
     let mut lent = right.clone();
     for _ in 0..random.pick(&[1, 1, 1, 2]) {
         damage(random, &mut lent, &mut call);
@@ -97,7 +97,7 @@ fn request(random: &mut Random, lent: &Lent) -> Request {
     }
 }
 
-fn decision_mask(random: &mut Random, lent: &Lent, place: usize) -> u16 {
+pub fn decision_mask(random: &mut Random, lent: &Lent, place: usize) -> u16 {
     let full = lent.rules.full_mask();
     let kept = lent.session[2 + place] as u16;
     let one = 1 << random.below(lent.rules.values);
@@ -113,7 +113,7 @@ fn decision_mask(random: &mut Random, lent: &Lent, place: usize) -> u16 {
     }
 }
 
-fn decision_limit(random: &mut Random, lent: &Lent, place: usize) -> u32 {
+pub fn decision_limit(random: &mut Random, lent: &Lent, place: usize) -> u32 {
     let held = lent.limits[place];
     let least = lent.session[1];
     match random.below(12) {

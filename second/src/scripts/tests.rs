@@ -128,3 +128,44 @@ fn full_lists_take_no_more() {
     assert_eq!(marks[73..76], [9, 0, 12]);
     assert_eq!(marks[76..], [vec![0; 64], vec![10, 0]].concat());
 }
+
+/// The lines that a script shows, as numbers.
+fn shown(lines: &[String]) -> Vec<Vec<u32>> {
+    let shown = lines.iter().filter_map(|line| line.strip_prefix("show\t"));
+    shown.map(|line| line.split('\t').map(|field| field.parse().unwrap()).collect()).collect()
+}
+
+#[test]
+fn on_w_it_does_not_matter_who_decided_first() {
+    let shown = shown(&printed_by(fixed(), "who decided first, on W"));
+    // exe and exx are left; without mask 6 and limit 4 ddx too; with e alone at the last place exe.
+    let expected = [[0, 2, 2, 4, 6], [0, 2, 2, 4, 6], [0, 2, 3, 5, 6], [0, 4, 2, 4, 2]];
+    assert_eq!(shown, expected);
+}
+
+#[test]
+fn other_memories_show_the_same_and_those_of_more_decisions_no_more() {
+    let (mut other_memory, mut no_roster, mut fewer_kept, mut dearer) = (0, 0, 0, 0);
+    for case in 0..500 {
+        let mut script = Script::default();
+        script.begin("shuffled");
+        shuffles::case(&mut Random::for_case(5, case), &mut script);
+        let lines = printed_by(&script, "shuffled");
+        let [first, second, third] = &shown(&lines)[..] else {
+            panic!("case {case} shows another number of memories");
+        };
+        assert_eq!(first, second, "case {case}");
+        let mut kept = third[2..].iter().zip(&first[2..]);
+        assert!(kept.all(|(third, first)| third & !first == 0), "case {case}");
+        assert!(third[0] == 11 || (first[0] == 0 && third[1] >= first[1]), "case {case}");
+
+        // The line before a memory is shown has the checksum of all of it.
+        let sums: Vec<&[String]> = lines.split(|line| line.starts_with("show")).collect();
+        other_memory += usize::from(sums[0].last() != sums[1].last());
+        no_roster += usize::from(first[0] == 11);
+        fewer_kept += usize::from(third[0] == 0 && third[2..] != first[2..]);
+        dearer += usize::from(third[0] == 0 && third[1] > first[1]);
+    }
+    let met = [other_memory, no_roster, fewer_kept, dearer];
+    assert!(met.iter().zip([400, 50, 50, 10]).all(|(met, least)| *met >= least), "{met:?}");
+}
