@@ -92,8 +92,8 @@ fn shuffle<T>(random: &mut Random, list: &mut [T]) {
 fn decision(random: &mut Random, lent: &Lent) -> Request {
     let place = random.below(lent.places);
     let (full, any) = (lent.rules.full_mask(), random.number() as u16);
-    let kept = (0..16).map(|value| 1 << value).filter(|bit| lent.session[2 + place] & bit != 0);
-    let kept: Vec<u32> = kept.collect();
+    let values = (0..lent.rules.values).map(|value| 1 << value);
+    let kept: Vec<u32> = values.filter(|bit| lent.session[2 + place] & bit != 0).collect();
     match random.below(10) {
         0..=4 if !kept.is_empty() => {
             Request::Keep { place, mask: random.pick(&kept) as u16 | any & full }
