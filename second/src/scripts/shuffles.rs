@@ -50,14 +50,15 @@ pub fn case(random: &mut Random, script: &mut Script) {
     let first = decided(random, script, &opened, &decisions);
     shuffle(random, &mut decisions);
     let second = decided(random, script, &opened, &decisions);
-    assert_eq!(shown(&first), shown(&second), "in another order: {first:?}, {second:?}");
+    assert_eq!(shown(&first), shown(&second), "in another order: {decisions:?}");
 
     for _ in 0..random.from_to(1, 3) {
         decisions.push(decision(random, &first));
     }
     shuffle(random, &mut decisions);
     let third = decided(random, script, &opened, &decisions);
-    assert!(no_more(shown(&third), shown(&first)), "more put in: {first:?}, {third:?}");
+    let (more, few) = (shown(&third), shown(&first));
+    assert!(no_more(more, few), "with more put in, {decisions:?}: {more:?}, not {few:?}");
 }
 
 /// As many values are left as two at each place, so that there is something to decide.
