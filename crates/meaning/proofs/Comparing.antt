@@ -4,7 +4,7 @@ use mathlib.Core.Bool.{Bool, true, false, cond, _&&_, false≢true, and-eq-true-
 use mathlib.Core.List.{List, [], _∷_}
 use mathlib.Core.List.{List·Permᴰ as Permuted, List·Permᴰ·nil as nil, List·Permᴰ·cons as cons, List·Permᴰ·swap as swap, List·Permᴰ·trans as trans}
 use mathlib.Core.List.{Sublistᴰ as Within, Sublistᴰ·slnil as none, Sublistᴰ·cons as put, Sublistᴰ·cons-cons as both}
-use Prim.Native.Nat.{ℕ, suc, _+_, _≤_}
+use Prim.Native.Nat.{ℕ, _+_, _≤_}
 use native.Mathlib.Omega.{arith}
 use lib.Dec.{eqb}
 use borrow.Author.Tests.{eqb-true, eq-eqb}
@@ -32,27 +32,20 @@ unfolding sameDecision
 one-itself (Keep i m) = rw (eq-eqb i i refl, eq-eqb m m refl)
 one-itself (Limit i l) = rw (eq-eqb i i refl, eq-eqb l l refl)
 
-times-first : (d e : Decision) (es : List Decision) → times d (e ∷ es) ≡ one d e + times d es
-unfolding times
-times-first d e es = go (sameDecision d e)
-  where
-    go : (b : Bool) → cond b (suc (times d es)) (times d es) ≡ cond b 1 0 + times d es
-    go true = omega arith
-    go false = omega arith
-
 -- every permutation is the same up to order
 pub permuted : {ds es : List Decision} → Permuted ds es → SameUpToOrder ds es
+unfolding times
 permuted nil d = refl
-permuted (cons {a} {b} {l₁ = l} {l₂ = k} e s) d = omega (arith, times-first d a l, times-first d b k, ap (one d) e, permuted s d)
-permuted (swap {a} {b} {a′} {b′} {l} e k) d =
-    omega (arith, times-first d a (b ∷ l), times-first d b l, times-first d a′ (b′ ∷ l), times-first d b′ l, ap (one d) e, ap (one d) k)
+permuted (cons e s) d = omega (arith, ap (one d) e, permuted s d)
+permuted (swap e k) d = omega (arith, ap (one d) e, ap (one d) k)
 permuted (trans s t) d = permuted s d ∙ permuted t d
 
 -- a list with decisions put in anywhere, before, between or after, contains it
 pub put-in : {es ds : List Decision} → Within es ds → Contains ds es
+unfolding times
 put-in none d = omega arith
-put-in (put {a} {l₂ = ds} s) d = omega (arith, times-first d a ds, put-in s d)
-put-in (both {a} {b} {l₁ = es} {l₂ = ds} e s) d = omega (arith, times-first d a es, times-first d b ds, ap (one d) e, put-in s d)
+put-in (put s) d = omega (arith, put-in s d)
+put-in (both e s) d = omega (arith, ap (one d) e, put-in s d)
 
 module _ (f : Decision → Bool) where
   -- where all of a list meet f, so does one that stands in it
@@ -61,15 +54,13 @@ module _ (f : Decision → Bool) where
   all-times d [] a h = absurd (omega arith)
   all-times d (e ∷ ds) a h = let b = and-eq-true-iff (f e) (all f ds) .0 a in go (sameDecision d e) refl (b .0) (all-times d ds (b .1)) h
     where
-      go : (t : Bool) → sameDecision d e ≡ t → f e ≡ true → (1 ≤ times d ds → f d ≡ true) → 1 ≤ cond t (suc (times d ds)) (times d ds) → f d ≡ true
+      go : (t : Bool) → sameDecision d e ≡ t → f e ≡ true → (1 ≤ times d ds → f d ≡ true) → 1 ≤ cond t 1 0 + times d ds → f d ≡ true
       go true s g rec k = ap f (same-is d e s) ∙ g
-      go false s g rec k = rec k
+      go false s g rec k = rec (omega arith)
 
   -- and so do all of a list that it contains
   pub all-contained : (ds es : List Decision) → Contains ds es → all f ds ≡ true → all f es ≡ true
+  unfolding times
   all-contained ds [] c a = refl
   all-contained ds (e ∷ es) c a =
-      rw (
-        all-times e ds a (omega (arith, c e, times-first e e es, one-itself e)),
-        all-contained ds es (λ d. omega (arith, c d, times-first d e es)) a,
-      )
+      rw (all-times e ds a (omega (arith, c e, one-itself e)), all-contained ds es (λ d. omega (arith, c d)) a)

@@ -2,7 +2,7 @@
 use mathlib.Core.Path.{_≡_}
 use mathlib.Core.Bool.{Bool, true, false, cond, _&&_}
 use mathlib.Core.List.{List, [], _∷_}
-use Prim.Native.Nat.{ℕ, suc, _≤_}
+use Prim.Native.Nat.{ℕ, _+_, _≤_}
 use lib.Dec.{eqb}
 use lib.ListN.{getD}
 use Rattle.kinds.specs.Bits.{bit}
@@ -17,7 +17,7 @@ sameDecision (Limit i l) (Limit j k) = eqb i j && eqb l k
 -- how many times the decision stands in the list
 unfoldable pub times : Decision → List Decision → ℕ
 times d [] = 0
-times d (e ∷ es) = cond (sameDecision d e) (suc (times d es)) (times d es)
+times d (e ∷ es) = cond (sameDecision d e) 1 0 + times d es
 
 -- the same up to order, with repetition: each decision stands as many times in the one as in the other
 abbrev pub SameUpToOrder : List Decision → List Decision → Type 0
