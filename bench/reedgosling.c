@@ -1,4 +1,4 @@
-/* The proved filter and the proved first roster behind the peers' signature. */
+/* The proved filter, first roster and prefix report behind the peers' signature. */
 #include "peers/filt.h"
 #include "reedgosling.h"
 
@@ -18,5 +18,17 @@ int first(const rules_t *r, uint32_t n, const uint16_t *masks, const uint32_t *l
         answer = reedgosling_first_roster(n, RULES(r), masks, n, limits, n, n - 1, v, roster, n, work, REEDGOSLING_WORK_LENGTH(n));
     for (uint32_t i = 0; i < n; i++) kept[i] = roster[i];
     *least = 0;
+    return answer;
+}
+
+/* The prefix report of the roster that has the smallest value of each mask. The roster stands in kept, its report in least. */
+int report(const rules_t *r, uint32_t n, const uint16_t *masks, const uint32_t *limits, uint16_t *kept, uint32_t *least, uint32_t *work)
+{
+    static uint8_t roster[REEDGOSLING_MOST_PLACES];
+    size_t behind = 0;
+    (void)limits, (void)work;
+    for (uint32_t i = 0; i < n; i++) roster[i] = kept[i] = __builtin_ctz(masks[i]);
+    uint32_t answer = reedgosling_prefix_report(n, RULES(r), roster, n, &behind);
+    *least = behind;
     return answer;
 }

@@ -102,10 +102,11 @@ uint32_t reedgosling_first_roster(
     const uint16_t *masks, size_t masks_length, const uint32_t *limits, size_t limits_length, size_t place, uint8_t value,
     uint8_t *roster, size_t roster_length, uint32_t *work, size_t work_length);
 
-/* Tells how much of a roster lies behind its first missing arc: n less the steps made before it, so 0 where none is missing.
-   Masks, costs and limits play no part.
+/* Tells how much of a drawn roster has to be drawn anew: n less the length of its longest prefix that some accepted roster of length n
+   begins with. So 0 exactly if the roster itself is accepted, otherwise 1 to n. Masks, costs and limits play no part.
    Lent: roster with n entries.
-   Returns 0, 1, 2, 3 or 7 (a roster value not below V, anywhere in the roster). Under 0 report has that number. */
+   Returns 0, 1, 2, 3, 7 (a roster value not below V, anywhere in the roster) or 11 (no roster of length n is accepted, whatever was
+   drawn). Under 0 report has that number, else 0. */
 uint32_t reedgosling_prefix_report(
     size_t places, size_t states, size_t values, uint8_t start,
     const uint8_t *targets, size_t targets_length, const uint16_t *costs, size_t costs_length, uint64_t accepting,

@@ -131,9 +131,10 @@ def single_calls(rota, masks, limits):
     answer, roster = rota.first_roster(masks, limits, 1, 1)
     print(f"K11, first roster with shift 1 on day 1: answer {answer}, roster {spelled(roster)}")
     answer, report = rota.prefix_report(roster)
-    print(f"report of that roster: answer {answer}, {report} days behind a missing step")
-    answer, report = rota.prefix_report([0, 1, 2])
-    print(f"report of 0 1 2: answer {answer}, {report} days behind a missing step")
+    print(f"report of that roster: answer {answer}, last days to be drawn anew: {report}")
+    for drawn in [2, 2, 0], [0, 2, 2]:
+        answer, report = rota.prefix_report(drawn)
+        print(f"report of {spelled(drawn)}: answer {answer}, last days to be drawn anew: {report}")
 
 
 def session_walk(rota, masks, limits):

@@ -93,6 +93,27 @@ pub fn rules(random: &mut Random, scale: Scale) -> Rules {
     rules
 }
 
+/// A right rule set of up to 3 states and 2 values, each size, start, set of accepting states and
+/// set of arcs as likely as another. What stands past its places would be wrong there.
+pub fn tiny_rules(random: &mut Random) -> Rules {
+    let (states, values) = (random.from_to(1, 3), random.from_to(1, 2));
+    let mut rules = Rules {
+        states,
+        values,
+        start: random.below(states) as u8,
+        targets: vec![77; TABLE],
+        costs: vec![7_777; TABLE],
+        accepting: random.number() & states_mask(states),
+    };
+    for place in 0..states * values {
+        let arc = random.below(states + 1) as u8;
+        let missing = usize::from(arc) == states;
+        rules.targets[place] = if missing { NO_ARC } else { arc };
+        rules.costs[place] = if missing { 0 } else { random.pick(&[0, MOST_COST]) };
+    }
+    rules
+}
+
 fn states_mask(states: usize) -> u64 {
     u64::MAX >> (MOST_STATES - states)
 }

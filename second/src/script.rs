@@ -14,8 +14,8 @@ mod lines;
 pub use call::{Call, CameTo};
 pub use lent::{Lent, Slice};
 
-use crate::agree::{filters_agree, first_rosters_agree};
-use crate::sheet;
+use crate::agree::{filters_agree, first_rosters_agree, reports_agree};
+use crate::{report, sheet};
 use bench::Bench;
 
 /// "A script has at most 2,097,152 bytes."
@@ -134,7 +134,11 @@ fn ways_agree(lent: &Lent, call: Call) -> bool {
             !(lent.is_right() && meant) || first_rosters_agree(&case, place, value)
         }
         Call::Write => !lent.rules.is_right() || sheet::reads_back(&lent.rules),
-        Call::Report | Call::Read | Call::Ask(_) | Call::Job => true,
+        Call::Report => {
+            let Lent { places, rules, roster, .. } = lent;
+            !report::is_right(*places, rules, roster) || reports_agree(rules, roster)
+        }
+        Call::Read | Call::Ask(_) | Call::Job => true,
     }
 }
 

@@ -9,6 +9,7 @@ mod lists;
 mod memory;
 mod order;
 mod problems;
+mod reports;
 mod sheets;
 mod shuffles;
 mod walks;
@@ -37,19 +38,22 @@ const FIXED: &[fn(&mut Script)] = &[
     jobs::samples,
     jobs::long,
     shuffles::walk,
+    reports::on_w,
+    reports::nothing_accepted,
 ];
 
 /// What makes the calls of a random case.
 type RandomCase = fn(&mut Random, &mut Script);
 
-/// How many of a hundred random cases are of each kind. One of a problem or text makes some
-/// calls, a session's history up to some two hundred.
-const RANDOM: &[(usize, RandomCase)] = &[
-    (60, problems::case),
-    (18, sheets::case),
-    (15, jobs::case),
-    (5, histories::case),
-    (2, shuffles::case),
+/// How many of a hundred random cases are of each kind, and its name. One of a problem or text
+/// makes some calls, a session's history up to some two hundred.
+const RANDOM: &[(usize, &str, RandomCase)] = &[
+    (57, "problems", problems::case),
+    (3, "reports", reports::case),
+    (18, "sheets", sheets::case),
+    (15, "jobs", jobs::case),
+    (5, "histories", histories::case),
+    (2, "shuffles", shuffles::case),
 ];
 
 /// The cases one after the other: the fixed ones, then random ones until enough calls are made.
@@ -57,19 +61,27 @@ pub struct Cases {
     seed: u64,
     /// How many calls there shall be at least.
     wanted: usize,
+    /// The one kind of random cases that there shall be, and no fixed ones.
+    only: Option<RandomCase>,
     calls: usize,
     taken: usize,
 }
 
 impl Cases {
     pub fn new(seed: u64, wanted: usize) -> Cases {
-        Cases { seed, wanted, calls: 0, taken: 0 }
+        Cases { seed, wanted, only: None, calls: 0, taken: 0 }
+    }
+
+    /// Random cases of one kind alone, if there is a kind of this name.
+    pub fn only(kind: &str, seed: u64, wanted: usize) -> Option<Cases> {
+        let (_, _, case) = RANDOM.iter().find(|(_, name, _)| *name == kind)?;
+        Some(Cases { only: Some(*case), ..Cases::new(seed, wanted) })
     }
 
     /// Adds the next case to a script. False if there is none left.
     pub fn add_next(&mut self, script: &mut Script) -> bool {
         let before = script.calls();
-        match FIXED.get(self.taken) {
+        match self.fixed().get(self.taken) {
             Some(fixed) => fixed(script),
             None if self.calls < self.wanted => self.add_random(script),
             None => return false,
@@ -79,18 +91,32 @@ impl Cases {
         true
     }
 
-    fn add_random(&self, script: &mut Script) {
-        let number = self.taken - FIXED.len() + 1;
-        let mut random = Random::for_case(self.seed, number as u64);
-        script.begin(&format!("case {number}"));
-        let mut share = random.below(100);
-        for (part, case) in RANDOM {
-            if share < *part {
-                return case(&mut random, script);
-            }
-            share -= part;
+    fn fixed(&self) -> &'static [fn(&mut Script)] {
+        if self.only.is_some() {
+            &[]
+        } else {
+            FIXED
         }
     }
+
+    fn add_random(&self, script: &mut Script) {
+        let number = self.taken - self.fixed().len() + 1;
+        let mut random = Random::for_case(self.seed, number as u64);
+        script.begin(&format!("case {number}"));
+        let case = self.only.unwrap_or_else(|| any_kind(&mut random));
+        case(&mut random, script);
+    }
+}
+
+fn any_kind(random: &mut Random) -> RandomCase {
+    let mut share = random.below(100);
+    for (part, _, case) in RANDOM {
+        if share < *part {
+            return *case;
+        }
+        share -= part;
+    }
+    unreachable!("the parts make a hundred")
 }
 
 #[cfg(test)]

@@ -1,19 +1,18 @@
 //! Brute force over all words: the paper's definitions, read off one list. For small n only.
 
-use crate::rules::{holds, Case, Found};
+use crate::rules::{holds, Case, Found, Rules};
 
 /// A roster and its running cost at each place.
 type Costed = (Vec<u8>, Vec<u32>);
 
 /// How many words there are, if that many are still worth listing.
-pub fn count_up_to(case: &Case, most: usize) -> Option<usize> {
-    let places = u32::try_from(case.places()).ok()?;
-    let words = case.rules.values.checked_pow(places)?;
+pub fn count_up_to(places: usize, rules: &Rules, most: usize) -> Option<usize> {
+    let words = rules.values.checked_pow(u32::try_from(places).ok()?)?;
     (words <= most).then_some(words)
 }
 
 /// All words of n values, "compared place by place, smaller value first".
-fn all_words(places: usize, values: usize) -> Vec<Vec<u8>> {
+pub fn all_words(places: usize, values: usize) -> Vec<Vec<u8>> {
     let mut words = vec![Vec::new()];
     for _ in 0..places {
         words = words.iter().flat_map(|word| longer_words(word, values)).collect();
@@ -76,11 +75,26 @@ pub fn first_roster(case: &Case, place: usize, value: u8) -> Option<Vec<u8>> {
     rosters.find(|word| word[place] == value)
 }
 
+/// The length of "the longest prefix that can be extended to an accepted word of full length":
+/// of all accepted words the one that agrees with the roster for longest.
+pub fn longest_prefix(rules: &Rules, roster: &[u8]) -> Option<usize> {
+    let (masks, limits) = (vec![0; roster.len()], vec![0; roster.len()]);
+    let case = Case { rules, masks: &masks, limits: &limits };
+    let words = all_words(roster.len(), rules.values).into_iter();
+    let accepted = words.filter(|word| running_costs(&case, word).is_some());
+    accepted.map(|word| agreeing(&word, roster)).max()
+}
+
+/// How many values two words begin with alike.
+fn agreeing(word: &[u8], other: &[u8]) -> usize {
+    word.iter().zip(other).take_while(|(value, other)| value == other).count()
+}
+
 #[cfg(test)]
 mod tests {
     use super::*;
     use crate::rules::MOST_LIMIT;
-    use crate::worked::{check_first_cases, check_kept_cases, w};
+    use crate::worked::{check_drawn_cases, check_first_cases, check_kept_cases, w};
 
     #[test]
     fn words_come_in_the_papers_order() {
@@ -104,12 +118,15 @@ mod tests {
     }
 
     #[test]
+    fn rosters_drawn_on_w() {
+        check_drawn_cases(longest_prefix);
+    }
+
+    #[test]
     fn counting_words_never_overflows() {
         let rules = w();
-        let long = Case { rules: &rules, masks: &[7; 366], limits: &[0; 366] };
-        assert_eq!(count_up_to(&long, usize::MAX), None);
-        let short = Case { rules: &rules, masks: &[7; 3], limits: &[0; 3] };
-        assert_eq!(count_up_to(&short, 27), Some(27));
-        assert_eq!(count_up_to(&short, 26), None);
+        assert_eq!(count_up_to(366, &rules, usize::MAX), None);
+        assert_eq!(count_up_to(3, &rules, 27), Some(27));
+        assert_eq!(count_up_to(3, &rules, 26), None);
     }
 }

@@ -110,6 +110,22 @@ const fn first(name: &'static str, limits: &'static [u32], roster: &'static [u8]
 pub const FIRST_CASES: &[FirstCase] =
     &[first("K11", &[N, N, N], &[1, 1, 2]), first("K12", &[0, N, N], &[2, 1, 1])];
 
+/// Drawn rosters and their reports: "xxd then gets 1 (xx extends to xxe), and dxx gets 2", d alone
+/// is not accepted, and the eight accepted rosters of length 3 get 0.
+pub const DRAWN_CASES: &[(&[u8], usize)] = &[
+    (&[2, 2, 0], 1),
+    (&[0, 2, 2], 2),
+    (&[0], 1),
+    (&[0, 0, 2], 0),
+    (&[1, 1, 2], 0),
+    (&[1, 2, 1], 0),
+    (&[1, 2, 2], 0),
+    (&[2, 0, 0], 0),
+    (&[2, 1, 1], 0),
+    (&[2, 1, 2], 0),
+    (&[2, 2, 1], 0),
+];
+
 /// Holds a filter against K1 to K10.
 #[cfg(test)]
 pub fn check_kept_cases(filter: impl Fn(&Case) -> Option<Found>) {
@@ -128,5 +144,13 @@ pub fn check_first_cases(first: impl Fn(&Case, usize, u8) -> Option<Vec<u8>>) {
         let case = Case { rules: &rules, masks: worked.masks, limits: worked.limits };
         let first = first(&case, worked.place, worked.value);
         assert_eq!(first.as_deref(), Some(worked.roster), "{}", worked.name);
+    }
+}
+
+/// Holds the length of a longest prefix against the drawn rosters.
+#[cfg(test)]
+pub fn check_drawn_cases(longest_prefix: impl Fn(&Rules, &[u8]) -> Option<usize>) {
+    for (roster, report) in DRAWN_CASES {
+        assert_eq!(longest_prefix(&w(), roster), Some(roster.len() - report), "{roster:?}");
     }
 }

@@ -89,7 +89,8 @@ fn a_program_that_fails_after_all_lines_is_a_failure() {
 
 #[test]
 fn wrong_arguments_are_told() {
-    for arguments in [&["write", "1"][..], &["compare", "x", "1", "cat"], &[]] {
+    let no_kind = &["only", "none", "1", "1", "cat"];
+    for arguments in [&["write", "1"][..], &["compare", "x", "1", "cat"], no_kind, &[]] {
         assert_eq!(scripts(arguments).status.code(), Some(2), "{arguments:?}");
     }
 }

@@ -1,9 +1,10 @@
 -- The laws of bits and masks, over every width. Assumes nothing.
 use mathlib.Core.Path.{_≡_, refl, sym, ap, _∙_}
-use mathlib.Core.Bool.{Bool, true, false, cond, _&&_, _||_, or-false}
+use mathlib.Core.Bool.{Bool, true, false, cond, _&&_, _||_, or-false, false≢true}
 use Prim.Native.Nat.{ℕ, zero, suc, _+_, _-_, _*_, _/_, _%_, _^_, _≤_, _<_, min}
 use native.Mathlib.Nat.{pow-suc, pow-succ', div-div-eq-div-mul, div-eq-of-lt, lt-of-lt-of-le, div-lt-iff-lt-mul, zero-div, one-mul, div-one}
 use native.Mathlib.Decide.{ℕ-discrete, decLt}
+use native.Mathlib.Numerals.{add-one}
 use native.Mathlib.Omega.{arith}
 use lib.Bits.{bitAnd, bitOr, and-shr, or-shr, and-mod, or-mod, and-mask, and-lt, or-lt}
 use lib.Pow.{pow-pos, pow-mono, pow-lt, high, shl-exact}
@@ -86,6 +87,13 @@ bit-ones (suc c) (suc u) =
 pub bit-above : (k m u : ℕ) → m < 2 ^ k → k ≤ u → bit m u ≡ false
 unfolding bit
 bit-above k m u h l = ap (λ (x : ℕ). eqb (x % 2) 1) (div-eq-of-lt (lt-of-lt-of-le h (pow-mono l)))
+
+pub bit-below : (k m u : ℕ) → m < 2 ^ k → bit m u ≡ true → u < k
+bit-below k m u h b = go (decLt u k)
+  where
+    go : Dec (u < k) → u < k
+    go (yes l) = l
+    go (no l) = absurd (false≢true (sym (bit-above k m u h (omega arith)) ∙ b))
 
 same-parity : (x y : ℕ) → x < 2 → y < 2 → eqb x 1 ≡ eqb y 1 → x ≡ y
 same-parity zero zero hx hy e = refl
@@ -197,3 +205,26 @@ pub mask-cut : (f : ℕ → Bool) (k n : ℕ) → ((u : ℕ) → k ≤ u → f u
 unfolding maskOf
 mask-cut f k zero h = let e : k + 0 ≡ k = omega arith in rw e
 mask-cut f k (suc n) h = let e : k + suc n ≡ suc (k + n) = omega arith in rw (e, h (k + n) (omega arith), maskOf) (omega (arith, mask-cut f k n h))
+
+-- the bit of the next number; behind the last it is lost, and not used
+pub next-bit : (w k b : ℕ) → k < w → b ≡ 1 * 2 ^ k % 2 ^ w → b * 2 ^ 1 % 2 ^ w ≡ 1 * 2 ^ (k + 1) % 2 ^ w
+next-bit w k b h d =
+    let e : 2 ^ k * 2 ^ 1 ≡ 1 * 2 ^ suc k = omega (arith, pow-suc 2 k) in
+    rw (d, shl-one w k h, add-one k) (ap (λ (x : ℕ). x % 2 ^ w) e)
+
+-- one number more: its bit is put in where f picks it
+pub mask-more : (f : ℕ → Bool) (k m : ℕ) → m ≡ maskOf f k → f k ≡ true → bitOr m (2 ^ k) ≡ maskOf f (suc k)
+mask-more f k m e h =
+    mask-is f (suc k) (bitOr m (2 ^ k)) (or-lt (suc k) m (2 ^ k) (omega (arith, small, pow-suc 2 k)) (pow-lt {i = k} {j = suc k} (omega arith)))
+    (λ u l. bit-or m (2 ^ k) u ∙ (ap (λ (b : Bool). bit m u || b) (bit-pow k u) ∙ go u l (ℕ-discrete u k)))
+  where
+    small : m < 2 ^ k
+    small = rw e (mask-lt f k)
+
+    go : (u : ℕ) → u < suc k → Dec (u ≡ k) → (bit m u || eqb u k) ≡ f u
+    go u l (yes d) = rw (d, bit-above k m k small (omega arith), eq-eqb k k refl) (sym h)
+    go u l (no d) = rw (ne-eqb u k d) (or-false (bit m u) ∙ rw e (bit-mask f k u (omega arith)))
+
+pub mask-skip : (f : ℕ → Bool) (k : ℕ) → f k ≡ false → maskOf f (suc k) ≡ maskOf f k
+unfolding maskOf
+mask-skip f k h = rw h (omega arith)

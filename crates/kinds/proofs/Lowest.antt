@@ -1,7 +1,7 @@
 -- The lowest bit of a number, and the number with that bit taken off, over every width: so the smallest value of a mask, and the rest of it.
 -- Assumes nothing.
 use mathlib.Core.Path.{_≡_, refl, sym, ap, _∙_}
-use mathlib.Core.Bool.{Bool, true, false, cond, not, _&&_, and-self, and-true, false≢true}
+use mathlib.Core.Bool.{Bool, true, false, cond, not, _&&_, and-self, and-true, and-eq-true-iff, false≢true}
 use Prim.Native.Nat.{ℕ, zero, suc, _-_, _/_, _%_, _^_, _≤_, _<_}
 use native.Mathlib.Nat.{pow-suc}
 use native.Mathlib.Decide.{ℕ-discrete, decLt}
@@ -23,6 +23,16 @@ low-set (suc k) n h l = go (n % 2) refl (omega arith) (λ e. low-set k (n / 2) (
     go zero e b ih = bit-suc n (trailingZeros k (n / 2)) ∙ ih e
     go (suc zero) e b ih = bit-zero n ∙ rw e
     go (suc (suc r)) e b ih = absurd (omega arith)
+
+-- two numbers that meet have a bit in common
+pub meet-some : (k a b : ℕ) → a < 2 ^ k → b < 2 ^ k → 0 < bitAnd a b → (u : ℕ) × (bit a u ≡ true) × (bit b u ≡ true)
+meet-some k a b ha hb h =
+    let u : ℕ = trailingZeros k (bitAnd a b) in
+    let p = and-eq-true-iff (bit a u) (bit b u) .0 (sym (bit-and a b u) ∙ low-set k (bitAnd a b) h (and-lt k a b ha hb)) in
+    (u, p .0, p .1)
+
+pub meet-none : (a b u : ℕ) → bitAnd a b ≡ 0 → bit a u ≡ true → bit b u ≡ false
+meet-none a b u e h = sym (ap (λ (x : Bool). x && bit b u) h) ∙ (sym (bit-and a b u) ∙ rw e (bit-none u))
 
 -- the number with that bit taken off: one less than the number has not that bit, but every other one that the number has
 rest-both : (k n u : ℕ) → 0 < n → n < 2 ^ k → (bit n u && bit (n - 1) u) ≡ (bit n u && not (eqb u (trailingZeros k n)))

@@ -1,5 +1,6 @@
 pub mod Lists
 pub mod Members
+pub mod Prefixes
 pub mod Order
 pub mod Kept
 pub mod Narrow

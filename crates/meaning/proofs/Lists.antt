@@ -1,14 +1,16 @@
 -- The laws of the words for lists. Assumes nothing.
 use mathlib.Core.Path.{_≡_, refl, sym, ap, _∙_}
-use mathlib.Core.Bool.{Bool, true, false, cond, _&&_, _||_, false≢true, or-assoc}
+use mathlib.Core.Bool.{Bool, true, false, cond, _&&_, _||_, false≢true, or-assoc, or-false}
 use mathlib.Core.Logic.{_⊎_, inl, inr, ⊎-elim}
 use mathlib.Core.List.{List, [], _∷_, map, Memᴰ·append-left, Memᴰ·append-right, _++_, append-assoc, append-nil}
 use mathlib.Core.List.{List·Memᴰ as In, List·Memᴰ·head as head, List·Memᴰ·tail as tail, List·Memᴰ·not-nil as not-nil, List·Memᴰ·cases-cons as cases, List·Memᴰ·append-cases as append-cases}
 use Prim.Native.Nat.{ℕ, zero, suc, _+_, _≤_, _<_, _*_, _/_, _%_}
 use native.Mathlib.Omega.{arith}
 use native.Mathlib.Decide.{ℕ-discrete}
-use Rattle.meaning.specs.Lists.{from, each, those, any}
+use Rattle.meaning.specs.Lists.{from, each, those, any, some, Filled}
 use lib.Arith.{digits-div, digits-mod}
+use lib.ListN.{length, getD, set}
+use lib.Seq.{getD-set-same, getD-set-other}
 
 module _ {A : Type 0} where
   -- one of those that f picks is in the list, and f picks it
@@ -63,6 +65,15 @@ module _ {A : Type 0} where
       go : (b : Bool) → any f xs ≡ true → (b || any f xs) ≡ true
       go true k = refl
       go false k = k
+
+  -- there is one exactly if the list has some
+  pub some-in : (xs : List A) → some xs ≡ true → (x : A) × In x xs
+  some-in [] h = absurd (false≢true h)
+  some-in (x ∷ xs) h = (x, head refl)
+
+  pub in-some : {x : A} {xs : List A} → In x xs → some xs ≡ true
+  in-some (head p) = refl
+  in-some (tail m) = refl
 
 module _ {A B : Type 0} where
   -- functions that agree on the list send it to the same
@@ -138,6 +149,11 @@ each-more f n =
     let e : 0 + n ≡ n = omega arith in
     rw (from-append 0 n 1, e) (each-append f (from 0 n) (n ∷ []) ∙ ap (λ (l : List _). each f (from 0 n) ++ l) (append-nil (f n)))
 
+pub any-more : (f : ℕ → Bool) (n : ℕ) → any f (from 0 (n + 1)) ≡ (any f (from 0 n) || f n)
+any-more f n =
+    let e : 0 + n ≡ n = omega arith in
+    rw (from-append 0 n 1, e) (any-append f (from 0 n) (n ∷ []) ∙ ap (λ (b : Bool). any f (from 0 n) || b) (or-false (f n)))
+
 -- pairs counted by one number
 module _ {B : Type 0} (g : ℕ → ℕ → List B) (v : ℕ) where
   row-flat : (q j m : ℕ) → j + m ≤ v → each (λ k. g (k / v) (k % v)) (from (q * v + j) m) ≡ each (g q) (from j m)
@@ -159,3 +175,20 @@ module _ {B : Type 0} (g : ℕ → ℕ → List B) (v : ℕ) where
 
   pub pairs-flat : (n : ℕ) → each (λ p. each (g p) (from 0 v)) (from 0 n) ≡ each (λ k. g (k / v) (k % v)) (from 0 (n * v))
   pairs-flat n = let z : 0 * v ≡ 0 = omega arith in rw z at (rows-flat 0 n)
+
+-- a list filled from the front, number by number
+pub filled-none : (f : ℕ → ℕ) (was : List ℕ) → Filled f 0 was was
+filled-none f was = record { done = λ k h. absurd (omega arith); left = λ k h. refl }
+
+pub filled-same : (n : ℕ) (was : List ℕ) → Filled (λ k. getD was k 0) n was was
+filled-same n was = record { done = λ k h. refl; left = λ k h. refl }
+
+pub filled-more : {f : ℕ → ℕ} {n : ℕ} {was is : List ℕ} (x : ℕ) → n < length is → Filled f n was is → x ≡ f n → Filled f (n + 1) was (set is n x)
+filled-more {f} {n} {was} {is} x h r e = record { done = λ k l. go k l (ℕ-discrete k n); left = λ k l. getD-set-other is n k x 0 (λ d. omega arith) ∙ r .left k (omega arith) }
+  where
+    go : (k : ℕ) → k < n + 1 → Dec (k ≡ n) → getD (set is n x) k 0 ≡ f k
+    go k l (yes d) = rw d (getD-set-same is n x 0 h ∙ e)
+    go k l (no d) = getD-set-other is n k x 0 d ∙ r .done k (omega arith)
+
+pub filled-end : {f : ℕ → ℕ} {i n : ℕ} {was is : List ℕ} → Filled f i was is → i ≤ n → n ≤ i → Filled f n was is
+filled-end {f} {i} {n} r h k = let e : i ≡ n = omega arith in rw e at r

@@ -1,6 +1,6 @@
 -- What is in the list of rosters, and the least of some numbers.
 use mathlib.Core.Path.{_≡_, refl, sym, ap, _∙_, subst}
-use mathlib.Core.Bool.{true, false≢true, and-eq-true-iff}
+use mathlib.Core.Bool.{Bool, true, false≢true, and-eq-true-iff}
 use mathlib.Core.Logic.{_⊎_, inl, inr, _↔_}
 use mathlib.Core.List.{List, [], _∷_, map, Memᴰ·map, Memᴰ·of-map, Memᴰ·cast}
 use mathlib.Core.List.{List·Memᴰ as In, List·Memᴰ·head as head, List·Memᴰ·tail as tail, List·Memᴰ·not-nil as not-nil, List·Memᴰ·cases-cons as cases, List·Memᴰ·eq-of-singleton as eq-of-singleton}
@@ -71,20 +71,24 @@ allowed-length r q c (p ∷ ps) [] h = absurd (false≢true h)
 allowed-length r q c (p ∷ ps) (v ∷ w) h =
     ap suc (allowed-length r (target (r .arcs) q v) (c + cost (r .arcs) q v) ps w (goes r q c p v ps w .0 h .rest))
 
+-- of the words of n values, those that f picks
+pub picked-in : (f : List ℕ → Bool) (vs n : ℕ) (w : List ℕ) → In w (those f (words vs n)) ↔ ((length w ≡ n) × Below vs w × (f w ≡ true))
+picked-in f vs n w = (fwd, bwd)
+  where
+    fwd : In w (those f (words vs n)) → (length w ≡ n) × Below vs w × (f w ≡ true)
+    fwd m =
+        let t = those-in f (words vs n) m in
+        let k = words-in vs n w (t .0) in
+        (k .0, k .1, t .1)
+
+    bwd : (length w ≡ n) × Below vs w × (f w ≡ true) → In w (those f (words vs n))
+    bwd t = in-those f (rw (t .0) at (in-words vs w (t .1))) (t .2)
+
 -- a word is in the list exactly if it has the places' length, its values are below V, and it is allowed
 pub roster-in : (r : Rules) (q c : ℕ) (ps : List Place) (w : List ℕ)
     → In w (rosters r q c ps) ↔ ((length w ≡ length ps) × Below (r .arcs .values) w × (allowed r q c ps w ≡ true))
 unfolding rosters
-roster-in r q c ps w = (fwd, bwd)
-  where
-    fwd : In w (those (allowed r q c ps) (words (r .arcs .values) (length ps))) → (length w ≡ length ps) × Below (r .arcs .values) w × (allowed r q c ps w ≡ true)
-    fwd m =
-        let t = those-in (allowed r q c ps) (words (r .arcs .values) (length ps)) m in
-        let k = words-in (r .arcs .values) (length ps) w (t .0) in
-        (k .0, k .1, t .1)
-
-    bwd : (length w ≡ length ps) × Below (r .arcs .values) w × (allowed r q c ps w ≡ true) → In w (those (allowed r q c ps) (words (r .arcs .values) (length ps)))
-    bwd t = in-those (allowed r q c ps) (rw (t .0) at (in-words (r .arcs .values) w (t .1))) (t .2)
+roster-in r q c ps w = picked-in (allowed r q c ps) (r .arcs .values) (length ps) w
 
 -- there are as many places as masks
 pub length-places : (ms ls : List ℕ) → length ms ≡ length ls → length (places ms ls) ≡ length ms

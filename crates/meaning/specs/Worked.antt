@@ -1,10 +1,13 @@
--- The sheet W of the paper, about the definitions: what it accepts, K1 to K12 as one statement over one table, and decisions in two orders.
+-- The sheet W of the paper, about the definitions: what it accepts, K1 to K12 as one statement over one table, decisions in two orders, and
+-- what is reported of drawn rosters.
 use mathlib.Core.Path.{_≡_, refl}
 use mathlib.Core.List.{List, [], _∷_, map}
 use Prim.Native.Nat.{ℕ}
+use lib.ListN.{length, replicate}
 use Rattle.kinds.specs.Bits.{bit, maskOf}
 use Rattle.meaning.specs.Bounds.{top}
 use Rattle.meaning.specs.Lists.{those}
+use Rattle.meaning.specs.Prefixes.{acceptedWords, longest, behind}
 use Rattle.meaning.specs.Meaning.{Rules, accepted, words, places, rosters, kept, keptAt, first, Verdict, verdict, verdictOf, Decision, Keep, Limit, decide, decides}
 
 -- the sheet W: a row of three for each of its states, 255 where there is no arc; 61 has the bits of its final states 0, 2, 3, 4 and 5
@@ -116,3 +119,11 @@ after ds = verdictOf W 0 0 (decides (places (7 ∷ 7 ∷ 7 ∷ []) (free ∷ fre
 pub either-order : map after orders ≡ verdict 0 (2 ∷ 4 ∷ 6 ∷ []) 2 ∷ verdict 0 (2 ∷ 4 ∷ 6 ∷ []) 2 ∷ verdict 0 (3 ∷ 5 ∷ 6 ∷ []) 2 ∷ []
 unfolding W orders top places bit maskOf rosters kept keptAt verdictOf decide decides
 either-order = refl
+
+-- DRAWN ROSTERS: xxd gets 1, for xx goes on to xxe; dxx gets 2, for only d goes on; of length 1, d gets 1; and the eight get 0
+unfoldable pub drawn : List (List ℕ)
+drawn = (x ∷ x ∷ d ∷ []) ∷ (d ∷ x ∷ x ∷ []) ∷ (d ∷ []) ∷ eight
+
+pub reports : map (λ w. behind w (acceptedWords W 0 (length w))) drawn ≡ 1 ∷ 2 ∷ 1 ∷ replicate 8 0
+unfolding W drawn eight bit acceptedWords longest behind
+reports = refl

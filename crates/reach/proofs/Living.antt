@@ -1,44 +1,23 @@
 -- The live states of a front as bits, and the search from one live state to the next: a dead state joins nowhere.
 use mathlib.Core.Path.{_≡_, refl, sym, ap, _∙_}
-use mathlib.Core.Bool.{Bool, true, false, _||_, and-eq-true-iff, or-false, false≢true}
+use mathlib.Core.Bool.{Bool, true, false, and-eq-true-iff, false≢true}
 use mathlib.Core.List.{List}
 use Prim.Native.Nat.{ℕ, zero, suc, _+_, _-_, _*_, _%_, _^_, _≤_, _<_}
-use native.Mathlib.Nat.{pow-suc}
 use native.Mathlib.Numerals.{add-one}
 use native.Mathlib.Omega.{arith}
-use native.Mathlib.Decide.{ℕ-discrete, decLt}
-use lib.Bits.{bitAnd, bitOr, or-lt}
+use native.Mathlib.Decide.{decLt}
+use lib.Bits.{bitAnd, bitOr}
 use lib.Count.{trailingZeros}
-use lib.Dec.{ltb, eqb}
+use lib.Dec.{ltb}
 use lib.ListN.{getD, take, drop}
-use lib.Pow.{pow-lt}
-use borrow.Author.Tests.{eq-eqb, ne-eqb, lt-ltb, le-ltb}
+use borrow.Author.Tests.{lt-ltb, le-ltb}
 use Rattle.kinds.specs.Bits.{bit, maskOf}
-use Rattle.kinds.proofs.Bits.{bit-and, bit-or, bit-none, bit-pow, bit-mask, bit-above, mask-is, mask-lt, shl-one}
+use Rattle.kinds.proofs.Bits.{bit-and, bit-below, bit-none, bit-mask, mask-lt, mask-more, mask-skip, shl-one}
 use Rattle.kinds.proofs.Lowest.{low-set, Sought, sought-more}
 use Rattle.meaning.specs.Bounds.{top}
 use Rattle.rooms.specs.Tables.{down, Net, roomsBy, Low}
 use Rattle.reach.specs.Looks.{leadsOn, joins, liveOf, LiveHeld, LowRows}
 use Rattle.rooms.proofs.Filling.{row-part}
-
--- state by state: the mask of the states that f picks
-mask-more : (f : ℕ → Bool) (q m : ℕ) → m ≡ maskOf f q → f q ≡ true → bitOr m (2 ^ q) ≡ maskOf f (suc q)
-mask-more f q m e h =
-    mask-is f (suc q) (bitOr m (2 ^ q)) (or-lt (suc q) m (2 ^ q) (omega (arith, small, pow-suc 2 q)) (pow-lt {i = q} {j = suc q} (omega arith)))
-    (λ u l. bit-or m (2 ^ q) u ∙ (ap (λ (b : Bool). bit m u || b) (bit-pow q u) ∙ go u l (ℕ-discrete u q)))
-  where
-    small : m < 2 ^ q
-    small = rw e (mask-lt f q)
-
-    go : (u : ℕ) → u < suc q → Dec (u ≡ q) → (bit m u || eqb u q) ≡ f u
-    go u l (yes d) = rw (d, bit-above q m q small (omega arith), eq-eqb q q refl) (sym h)
-    go u l (no d) = rw (ne-eqb u q d) (or-false (bit m u) ∙ rw e (bit-mask f q u (omega arith)))
-
--- the bit of the next state; behind state 63 it is lost, and not used
-pub next-bit : (q b : ℕ) → q < 64 → b ≡ 1 * 2 ^ q % 2 ^ 64 → b * 2 ^ 1 % 2 ^ 64 ≡ 1 * 2 ^ (q + 1) % 2 ^ 64
-next-bit q b h d =
-    let e : 2 ^ q * 2 ^ 1 ≡ 1 * 2 ^ suc q = omega (arith, pow-suc 2 q) in
-    rw (d, shl-one 64 q h, add-one q) (ap (λ (x : ℕ). x % 2 ^ 64) e)
 
 module _ (front : List ℕ) where
   pub live-none : 0 ≡ liveOf 0 front
@@ -50,8 +29,8 @@ module _ (front : List ℕ) where
   live-more q m b h e d l = rw (d, shl-one 64 q h, add-one q) (mask-more (λ q. ltb (getD front q 0) 366001) q m e (lt-ltb (getD front q 0) 366001 (omega arith)))
 
   pub live-skip : (q m : ℕ) → m ≡ liveOf q front → 366000 < getD front q 0 → m ≡ liveOf (q + 1) front
-  unfolding liveOf maskOf top
-  live-skip q m e l = rw (add-one q, le-ltb (getD front q 0) 366001 (omega arith)) (e ∙ omega arith)
+  unfolding liveOf top
+  live-skip q m e l = rw (add-one q) (e ∙ sym (mask-skip (λ q. ltb (getD front q 0) 366001) q (le-ltb (getD front q 0) 366001 (omega arith))))
 
   pub live-end : (q n m : ℕ) → q ≤ n → n ≤ q → m ≡ liveOf q front → m ≡ liveOf n front
   live-end q n m h k e = let d : q ≡ n = omega arith in rw d at e
@@ -71,14 +50,10 @@ module _ (a : Net) (front needs : List ℕ) (v n : ℕ) where
   pub looked-none : (live : ℕ) → live ≡ liveOf n front → Looked live
   unfolding liveOf
   looked-none live e = record {
-    few = λ q b. few q b (decLt q n);
+    few = λ q b. bit-below n live q (rw e (mask-lt (λ q. ltb (getD front q 0) (suc top)) n)) b;
     others = record { none = λ q l b. le-ltb _ _ (dead q (a .to q v) (sym (bit-mask (λ q. ltb (getD front q 0) (suc top)) n q l) ∙ (sym (ap (λ (m : ℕ). bit m q) e) ∙ b))) };
   }
     where
-      few : (q : ℕ) → bit live q ≡ true → Dec (q < n) → q < n
-      few q b (yes h) = h
-      few q b (no h) = absurd (false≢true (sym (bit-above n live q (rw e (mask-lt (λ q. ltb (getD front q 0) (suc top)) n)) (omega arith)) ∙ b))
-
       dead : (q t : ℕ) → ltb (getD front q 0) (suc top) ≡ false → roomsBy needs t ≤ getD front q 0 + a .fee q v
       dead q t b = go (decLt (getD front q 0) (suc top))
         where

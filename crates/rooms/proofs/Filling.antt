@@ -12,24 +12,9 @@ use lib.Seq.{getD-set-same, getD-set-other, getD-take, getD-drop, getD-append-ad
 use borrow.Author.Tests.{lt-ltb, le-ltb}
 use borrow.Rule.Slice.PartMut.{putMid, midOf, mid-len}
 use Rattle.meaning.specs.Bounds.{top}
+pub use Rattle.meaning.proofs.Lists.{filled-none, filled-same, filled-more, filled-end}
 use Rattle.ranks.proofs.Parts.{part-at, row-in, row-other}
 use Rattle.rooms.specs.Tables.{blanked, copied, Filled, Low, Matches, LowBehind, Laid, Outside}
-
-pub filled-none : (f : ℕ → ℕ) (was : List ℕ) → Filled f 0 was was
-filled-none f was = record { done = λ k h. absurd (omega arith); left = λ k h. refl }
-
-pub filled-same : (n : ℕ) (was : List ℕ) → Filled (λ k. getD was k 0) n was was
-filled-same n was = record { done = λ k h. refl; left = λ k h. refl }
-
-pub filled-more : {f : ℕ → ℕ} {n : ℕ} {was is : List ℕ} (x : ℕ) → n < length is → Filled f n was is → x ≡ f n → Filled f (n + 1) was (set is n x)
-filled-more {f} {n} {was} {is} x h r e = record { done = λ k l. go k l (ℕ-discrete k n); left = λ k l. getD-set-other is n k x 0 (λ d. omega arith) ∙ r .left k (omega arith) }
-  where
-    go : (k : ℕ) → k < n + 1 → Dec (k ≡ n) → getD (set is n x) k 0 ≡ f k
-    go k l (yes d) = rw d (getD-set-same is n x 0 h ∙ e)
-    go k l (no d) = getD-set-other is n k x 0 d ∙ r .done k (omega arith)
-
-pub filled-end : {f : ℕ → ℕ} {i n : ℕ} {was is : List ℕ} → Filled f i was is → i ≤ n → n ≤ i → Filled f n was is
-filled-end {f} {i} {n} r h k = let e : i ≡ n = omega arith in rw e at r
 
 -- a row of a table laid number by number
 pub laid-none : (g : ℕ → ℕ) (i : ℕ) (was : List ℕ) → Laid g 0 i was was

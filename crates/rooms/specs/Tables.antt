@@ -6,6 +6,7 @@ use Prim.Native.Nat.{ℕ, zero, suc, _+_, _*_, _-_, _≤_, _<_, min, max}
 use lib.Dec.{ltb}
 use lib.ListN.{length, getD, replicate, take, drop}
 use Rattle.kinds.specs.Bits.{width, bit}
+pub use Rattle.meaning.specs.Lists.{Filled}
 use Rattle.meaning.specs.Meaning.{Arcs, arcsOf, target, cost, Place, places}
 use Rattle.meaning.specs.Lists.{those}
 use Rattle.ranks.specs.Rows.{out, Ranked}
@@ -51,11 +52,6 @@ blanked n x row = cond (ltb (length row) n) row (replicate n x ++ drop n row)
 -- a row with the first n numbers of another; where one of the two has fewer, the row stays
 unfoldable pub copied : ℕ → List ℕ → List ℕ → List ℕ
 copied n from row = cond (ltb (length from) n || ltb (length row) n) row (take n from ++ drop n row)
-
--- a list that was filled up to n: f below n, what it was from n on
-pub record Filled (f : ℕ → ℕ) (n : ℕ) (was is : List ℕ) : Type 0 where
-  pub done : (k : ℕ) → k < n → getD is k 0 ≡ f k
-  pub left : (k : ℕ) → n ≤ k → getD is k 0 ≡ getD was k 0
 
 -- BACKWARD. The room of a state: one more than the greatest cost already spent at which some roster goes on from there, 0 where none
 -- does. The best that some values leave, where `next` has the rooms one place on:

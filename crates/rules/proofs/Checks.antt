@@ -1,6 +1,6 @@
 -- What the tests of the checks say, and how `decided` goes by them. Assumes nothing.
-use mathlib.Core.Path.{_≡_, refl, sym, _∙_}
-use mathlib.Core.Bool.{Bool, true, false, not, _&&_, _||_, and-eq-true-iff, or-false}
+use mathlib.Core.Path.{_≡_, refl, sym, ap, _∙_}
+use mathlib.Core.Bool.{Bool, true, false, not, _&&_, _||_, and-eq-true-iff, or-false, false≢true}
 use mathlib.Core.List.{List, [], _∷_}
 use Prim.Native.Nat.{ℕ, _+_, _-_, _*_, _^_, _≤_, _<_}
 use native.Mathlib.Nat.{mul-le-mul}
@@ -67,6 +67,19 @@ pub all-passed : {A : Type 0} (refuse : ℕ → A) (done : A) (ks : List Check) 
 unfolding decided
 all-passed refuse done [] p = refl
 all-passed refuse done (check n ok ∷ ks) p = rw (p .0) (all-passed refuse done ks (p .1))
+
+-- no check of the list gives the answer a: then, where that is answered, all are passed
+abbrev pub others : ℕ → List Check → Bool
+others a [] = true
+others a (check n ok ∷ ks) = not (eqb n a) && others a ks
+
+pub answered : {A : Type 0} (answer : A → ℕ) (refuse : ℕ → A) (done : A) → ((n : ℕ) → answer (refuse n) ≡ n)
+    → (a : ℕ) (ks : List Check) → others a ks ≡ true → answer (decided ks refuse done) ≡ a → Passed ks
+unfolding decided
+answered answer refuse done f a [] o e = tt
+answered answer refuse done f a (check n true ∷ ks) o e = (refl, answered answer refuse done f a ks (both (not (eqb n a)) (others a ks) o .1) e)
+answered answer refuse done f a (check n false ∷ ks) o e =
+    absurd (false≢true (sym (ap not (eq-eqb n a (sym (f n) ∙ e))) ∙ both (not (eqb n a)) (others a ks) o .0))
 
 -- what is done matters only if every check is passed
 pub decided-same : {A : Type 0} (refuse : ℕ → A) (d e : A) (ks : List Check) → (Passed ks → d ≡ e) → decided ks refuse d ≡ decided ks refuse e

@@ -1,6 +1,6 @@
 -- Places from Q × V on play no part: rules that are alike before tell the same, and so does a call that is handed either. Assumes nothing.
-use mathlib.Core.Path.{_≡_, refl, sym, ap, ap₂, _∙_}
-use mathlib.Core.Bool.{Bool, true, false, cond, _&&_, and-assoc, and-false}
+use mathlib.Core.Path.{_≡_, refl, ap, ap₂, _∙_}
+use mathlib.Core.Bool.{Bool, true, false, _&&_, and-comm}
 use mathlib.Core.List.{List, [], _∷_, _++_}
 use mathlib.Core.List.{List·Memᴰ as In}
 use Prim.Native.Nat.{ℕ, zero, suc, _+_, _*_, _<_}
@@ -13,21 +13,17 @@ use Rattle.rules.specs.Answers.{Check, check, decided}
 use Rattle.rules.specs.Checks.{Handed, Alike, RulesAlike, OneRuleSet, sizesRight, tablesLong, arcRight, tablesFrom, tablesRight, ruleChecks}
 use Rattle.meaning.specs.Lists.{from, those, all}
 use Rattle.meaning.specs.Meaning.{Rules, rulesOf, target, cost, hasArc, accepted, total, Place, takes, fits, allowed, words, rosters, kept, least, answer, verdict, verdictOn, verdictOf}
-use Rattle.rules.specs.Report.{steps, valuesRight, reportOf}
+use Rattle.rules.specs.Report.{fullWords, reportOf}
+use Rattle.meaning.specs.Prefixes.{acceptedWords, behind}
 use Rattle.meaning.specs.Worked.{W}
 use Rattle.rules.proofs.Checks.{both, Passed, decided-same, sizes-of, size-of}
 use Rattle.meaning.proofs.Lists.{those-same, map-same}
 use Rattle.meaning.proofs.Members.{Below, words-in, roster-in}
 
--- what follows an arc matters only if the arc is there
-behind : (k f1 f2 a1 a2 g h : Bool) → g ≡ h → (g ≡ true → (f1 && a1) ≡ (f2 && a2)) → ((k && f1) && (g && a1)) ≡ ((k && f2) && (h && a2))
-behind k f1 f2 a1 a2 true h e f = rw (← e) (and-assoc k f1 a1 ∙ (ap (λ (b : Bool). k && b) (f refl) ∙ sym (and-assoc k f2 a2)))
-behind k f1 f2 a1 a2 false h e f = rw (← e) (and-false (k && f1) ∙ sym (and-false (k && f2)))
-
-values-below : (v : ℕ) (w : List ℕ) → valuesRight v w ≡ true → Below v w
-unfolding valuesRight
-values-below v [] e = tt
-values-below v (x ∷ w) e = let b = both (ltb x v) _ e in (ltb-true _ _ (b .0), values-below v w (b .1))
+-- what stands behind a test matters only if the test is passed
+behind-test : (a b f g : Bool) → a ≡ b → (a ≡ true → f ≡ g) → (a && f) ≡ (b && g)
+behind-test true b f g e k = rw (← e) (k refl)
+behind-test false b f g e k = rw (← e)
 
 all-alike : (f g : ℕ → Bool) (i n : ℕ) → ((k : ℕ) → k < i + n → f k ≡ g k) → all f (from i n) ≡ all g (from i n)
 all-alike f g i zero e = refl
@@ -54,16 +50,35 @@ module _ (r u : Rules) (alike : RulesAlike r u) where
             (λ k h. rw (alike .targets k (omega arith), alike .costs k (omega arith))),
       )
 
-  allowed-alike : (q s : ℕ) (ps : List Place) (w : List ℕ) → q < r .arcs .states → Below (r .arcs .values) w → allowed r q s ps w ≡ allowed u q s ps w
-  allowed-alike q s [] [] h b = rw (alike .accepting)
-  allowed-alike q s [] (v ∷ w) h b = refl
-  allowed-alike q s (p ∷ ps) [] h b = refl
-  allowed-alike q s (p ∷ ps) (v ∷ w) h b =
+  accepted-alike : (q : ℕ) (w : List ℕ) → q < r .arcs .states → Below (r .arcs .values) w → accepted r q w ≡ accepted u q w
+  accepted-alike q [] h b = rw (alike .accepting)
+  accepted-alike q (v ∷ w) h b =
       let n : ℕ = target (u .arcs) q v in
-      let x : ℕ = s + cost (u .arcs) q v in
-      rw (target-same q v h (b .0), cost-same q v h (b .0))
-      (behind (takes p x v) (fits (r .arcs) n x ps w) (fits (u .arcs) n x ps w) (accepted r n w) (accepted u n w) (ltb n (r .arcs .states)) (ltb n (u .arcs .states))
-      (ap (ltb n) (alike .states)) (λ e. allowed-alike n x ps w (ltb-true _ _ e) (b .1)))
+      rw (target-same q v h (b .0)) (behind-test (ltb n (r .arcs .states)) _ _ _ (ap (ltb n) (alike .states)) (λ e. accepted-alike n w (ltb-true _ _ e) (b .1)))
+
+  -- the same accepted words
+  pub words-alike : (q n : ℕ) → q < r .arcs .states → acceptedWords r q n ≡ acceptedWords u q n
+  unfolding acceptedWords
+  words-alike q n h =
+      those-same _ _ (words (r .arcs .values) n) (λ w k. accepted-alike q w h (words-in (r .arcs .values) n w k .1))
+      ∙ ap (λ (vs : ℕ). those (accepted u q) (words vs n)) (alike .values)
+
+  -- which fit alike
+  fits-alike : (q s : ℕ) (ps : List Place) (w : List ℕ) → q < r .arcs .states → Below (r .arcs .values) w → accepted r q w ≡ true
+      → fits (r .arcs) q s ps w ≡ fits (u .arcs) q s ps w
+  fits-alike q s [] [] h b a = refl
+  fits-alike q s [] (v ∷ w) h b a = refl
+  fits-alike q s (p ∷ ps) [] h b a = refl
+  fits-alike q s (p ∷ ps) (v ∷ w) h b a =
+      let k = both (hasArc (r .arcs) q v) _ a in
+      let x : ℕ = s + cost (r .arcs) q v in
+      ap (λ (f : Bool). takes p x v && f) (fits-alike (target (r .arcs) q v) x ps w (ltb-true _ _ (k .0)) (b .1) (k .1))
+      ∙ rw (target-same q v h (b .0), cost-same q v h (b .0))
+
+  allowed-alike : (q s : ℕ) (ps : List Place) (w : List ℕ) → q < r .arcs .states → Below (r .arcs .values) w → allowed r q s ps w ≡ allowed u q s ps w
+  allowed-alike q s ps w h b =
+      and-comm (fits (r .arcs) q s ps w) (accepted r q w)
+      ∙ (behind-test _ _ _ _ (accepted-alike q w h b) (fits-alike q s ps w h b) ∙ and-comm (accepted u q w) (fits (u .arcs) q s ps w))
 
   total-alike : (q s : ℕ) (w : List ℕ) → q < r .arcs .states → Below (r .arcs .values) w → accepted r q w ≡ true → total (r .arcs) q s w ≡ total (u .arcs) q s w
   total-alike q s [] h b a = refl
@@ -89,20 +104,6 @@ module _ (r u : Rules) (alike : RulesAlike r u) where
       ap₂ (λ (vs : ℕ) (xs : List ℕ). verdict (answer ws) (kept vs (length ps) ws) (least xs)) (alike .values)
       (map-same _ _ ws (λ w k. total-alike q s w h (accepts w k .0) (accepts w k .1)))
       ∙ ap (verdictOn (u .arcs) q s (length ps)) (rosters-alike q s ps h)
-
-  -- and a prefix report makes the same steps
-  pub steps-alike : (q : ℕ) (w : List ℕ) → q < r .arcs .states → Below (r .arcs .values) w → steps (r .arcs) q w ≡ steps (u .arcs) q w
-  unfolding steps
-  steps-alike q [] h b = refl
-  steps-alike q (v ∷ w) h b =
-      let n : ℕ = target (u .arcs) q v in
-      rw (target-same q v h (b .0))
-      (go (steps (r .arcs) n w) (steps (u .arcs) n w) (ltb n (r .arcs .states)) (ltb n (u .arcs .states)) (ap (ltb n) (alike .states))
-      (λ e. steps-alike n w (ltb-true _ _ e) (b .1)))
-    where
-      go : (i j : ℕ) (g k : Bool) → g ≡ k → (g ≡ true → i ≡ j) → cond g (suc i) 0 ≡ cond k (suc j) 0
-      go i j true k e f = rw (← e) (ap suc (f refl))
-      go i j false k e f = rw (← e)
 
 pub one-refl : (h : Handed) → OneRuleSet h h
 one-refl h = record {
@@ -147,11 +148,12 @@ module _ (h k : Handed) (one : OneRuleSet h k) where
       verdict-alike (h .rules) (k .rules) (one .rules) (h .start) 0 ps s ∙ ap (λ (q : ℕ). verdictOf (k .rules) q 0 ps) (one .start)
 
   -- so goes the prefix report
+  full-alike : h .start < h .rules .arcs .states → fullWords h ≡ fullWords k
+  full-alike s = words-alike (h .rules) (k .rules) (one .rules) (h .start) (h .places) s ∙ ap₂ (acceptedWords (k .rules)) (one .start) (one .places)
+
   pub report-alike : (w : List ℕ) → reportOf h w ≡ reportOf k w
   unfolding reportOf
-  report-alike w =
-      calls-alike _ _ _ _ _ _ _ (cc (one .places)) (λ s. cc (one .rules .values))
-      (λ s p. rw (steps-alike (h .rules) (k .rules) (one .rules) (h .start) w s (values-below _ w (p .0)), one .places, one .start))
+  report-alike w = calls-alike _ _ _ _ _ _ _ (cc (one .places)) (λ s. rw (full-alike s, one .rules .values)) (λ s p. rw (full-alike s))
 
 -- a table and what may follow it
 alike-more : (xs ys : List ℕ) → Alike (length xs) (xs ++ ys) xs
@@ -179,3 +181,7 @@ module _ (xs ys : List ℕ) where
   pub worked-verdict : (ps : List Place) → verdictOf longer 0 0 ps ≡ verdictOf W 0 0 ps
   unfolding W
   worked-verdict ps = verdict-alike longer W longer-alike 0 0 ps (omega arith)
+
+  pub worked-reports : (w : List ℕ) → behind w (acceptedWords longer 0 (length w)) ≡ behind w (acceptedWords W 0 (length w))
+  unfolding W
+  worked-reports w = rw (words-alike longer W longer-alike 0 (length w) (omega arith))

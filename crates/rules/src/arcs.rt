@@ -1,7 +1,7 @@
 // The rule tables: where an arc stands in them, and the check of answer 3.
 ghost use mathlib.Core.Path.{_≡_};
 ghost use Prim.Native.Nat.{_+_, _*_, _^_, _≤_, _<_};
-ghost use lib.ListN.{length};
+ghost use lib.ListN.{length, getD};
 ghost use lib.Dec.{ltb};
 ghost use Rattle.meaning.specs.Bounds.{mostStates, mostValues, tableSize};
 ghost use Rattle.rules.specs.Checks.{arcRight, tablesRight};
@@ -14,6 +14,14 @@ pub fn arc_at(q: State, v: Value, values: u8) -> usize
     ensures { λ r. ⌜ r ≡ q .0 * values + v .0 ⌝ }
 {
     (q.0 as usize) * (values as usize) + (v.0 as usize)
+}
+
+// Where the arc of a state on a value leads.
+pub(crate) fn target_of(values: usize, targets: &[u8], q: State, v: Value) -> u8
+    requires { ⌜ (values ≤ mostValues) × (length (now targets) ≡ tableSize) × (q .0 < mostStates) × (v .0 < values) ⌝ }
+    ensures { λ r. ⌜ r ≡ getD (now (targets .entry)) (q .0 * values + v .0) 0 ⌝ }
+{
+    targets[arc_at(q, v, values as u8)]
 }
 
 // Whether one arc is lawful: missing at no cost, or to a state at a cost in range.

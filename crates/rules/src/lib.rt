@@ -1,11 +1,20 @@
 // Rule sets as they are lent: the answers, the checks that every call shares, and the prefix report.
 ghost use mathlib.Core.Path.{_≡_};
-ghost use Rattle.rules.specs.Report.{outcome, reportOf};
+ghost use mathlib.Core.Bool.{true};
+ghost use mathlib.Core.List.{[]};
+ghost use Prim.Native.Nat.{_^_, _≤_, _<_};
+ghost use lib.ListN.{length};
+ghost use Rattle.meaning.specs.Bounds.{mostPlaces, mostStates, mostValues, tableSize};
+ghost use Rattle.meaning.specs.Meaning.{rulesOf};
+ghost use Rattle.meaning.specs.Prefixes.{acceptedWords};
+ghost use Rattle.rules.specs.Inner.{reportRest};
+ghost use Rattle.rules.specs.Report.{outcome, valuesRight, reportOf};
 ghost use Rattle.rules.specs.Checks.{handed, sizeRight, sizesRight, tablesLong, rulesRight, masksRight};
 ghost use Rattle.rules.specs.Answers.{numberOf};
 
 pub mod arcs;
 pub mod bounds;
+mod finish;
 pub mod numbers;
 mod steps;
 
@@ -144,7 +153,33 @@ fn refused(answer: Answer) -> Reported
     Reported { answer, report: 0 }
 }
 
-// The prefix report: n less the steps that the roster makes before the first missing arc.
+// The report of a roster that has passed the checks before 11.
+fn report_drawn(size: Size, targets: &[u8], accepting: u64, roster: &[u8]) -> Reported
+    requires { ⌜ (size .states ≤ mostStates) × (size .values ≤ mostValues) × (length (now targets) ≡ tableSize) × (accepting < 2 ^ size .states) × (size .start .0 < size .states) × (length (now roster) ≤ mostPlaces) × (valuesRight (size .values) (now roster) ≡ true) ⌝ }
+    ensures { λ r. ⌜ outcome (numberOf (r .answer)) (r .report) ≡ reportRest (now (roster .entry)) (acceptedWords (rulesOf (size .states) (size .values) (now (targets .entry)) [] accepting) (size .start .0) (length (now (roster .entry)))) ⌝ }
+{
+    let start = size.start;
+    let mut layers = [0u64; bounds::MOST_PLACES];
+    let first = finish::lay(
+        size.states,
+        size.values,
+        targets,
+        accepting,
+        roster.len(),
+        &mut layers,
+    );
+    if !finish::holds(first, State(start.0)) {
+        return refused(Answer::NoRoster);
+    }
+    let made = steps::steps_made(size.values, targets, &layers, start, roster);
+    let report = roster.len() - made;
+    Reported {
+        answer: Answer::Done,
+        report,
+    }
+}
+
+// The prefix report: n less the length of the longest prefix of the roster that an accepted word of n values begins with.
 pub fn prefix_report(
     places: usize,
     size: Size,
@@ -170,10 +205,5 @@ pub fn prefix_report(
     if !steps::values_right(size.values, roster) {
         return refused(Answer::OutOfRange);
     }
-    let start = size.start;
-    let made = steps::steps_made(size.states, size.values, targets, start, roster);
-    Reported {
-        answer: Answer::Done,
-        report: places - made,
-    }
+    report_drawn(size, targets, accepting, roster)
 }

@@ -1,11 +1,13 @@
-// The steps of a drawn roster.
+// The values and the steps of a drawn roster.
 ghost use mathlib.Core.Path.{_≡_};
 ghost use mathlib.Core.Bool.{true};
-ghost use Prim.Native.Nat.{_+_, _*_, _≤_, _<_};
-ghost use lib.ListN.{length, getD};
+ghost use Prim.Native.Nat.{_≤_, _<_};
+ghost use lib.ListN.{length};
 ghost use Rattle.meaning.specs.Bounds.{mostStates, mostValues, tableSize};
-ghost use Rattle.rules.specs.Report.{valuesRight, Steps};
-use crate::arcs::arc_at;
+ghost use Rattle.rules.specs.Report.{valuesRight};
+ghost use Rattle.rules.specs.Inner.{steps};
+use crate::arcs::target_of;
+use crate::finish::holds;
 use kinds::State;
 use kinds::Value;
 
@@ -23,34 +25,26 @@ pub(crate) fn values_right(values: usize, roster: &[u8]) -> bool
     true
 }
 
-// Where the arc of a state on a value leads.
-pub(crate) fn target_of(values: usize, targets: &[u8], q: State, v: Value) -> u8
-    requires { ⌜ (values ≤ mostValues) × (length (now targets) ≡ tableSize) × (q .0 < mostStates) × (v .0 < values) ⌝ }
-    ensures { λ r. ⌜ r ≡ getD (now (targets .entry)) (q .0 * values + v .0) 0 ⌝ }
-{
-    targets[arc_at(q, v, values as u8)]
-}
-
-// The steps that the roster makes before the first missing arc.
+// The steps that the roster makes, each to a state from which it can still finish with the values left.
 pub(crate) fn steps_made(
-    states: usize,
     values: usize,
     targets: &[u8],
+    layers: &[u64],
     start: State,
     roster: &[u8],
 ) -> usize
-    requires { ⌜ (states ≤ mostStates) × (values ≤ mostValues) × (length (now targets) ≡ tableSize) × (start .0 < states) × (valuesRight values (now roster) ≡ true) ⌝ }
-    ensures { λ r. ⌜ Steps states values (now (targets .entry)) (start .0) (now (roster .entry)) r ⌝ }
+    requires { ⌜ (values ≤ mostValues) × (length (now targets) ≡ tableSize) × (start .0 < mostStates) × (length (now roster) ≤ length (now layers)) × (valuesRight values (now roster) ≡ true) ⌝ }
+    ensures { λ r. ⌜ r ≡ steps values (now (targets .entry)) (now (layers .entry)) (start .0) (now (roster .entry)) ⌝ }
 {
     let mut q = start;
     let mut i: usize = 0;
     while i < roster.len() {
         let next = target_of(values, targets, q, Value(roster[i]));
-        if states <= (next as usize) {
-            return i;
+        i += 1;
+        if !holds(layers[roster.len() - i], State(next)) {
+            return i - 1;
         }
         q = State(next);
-        i += 1;
     }
     i
 }

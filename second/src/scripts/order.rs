@@ -9,7 +9,7 @@ pub fn refusals(call: Call) -> &'static [u32] {
     match call {
         Call::Filter | Call::Open => &[1, 2, 3, 4, 11],
         Call::First { .. } => &[1, 2, 3, 4, 7, 11],
-        Call::Report => &[1, 2, 3, 7],
+        Call::Report => &[1, 2, 3, 7, 11],
         Call::Read => &[2, 5],
         Call::Write => &[1, 2, 3, 6],
         Call::Ask(Request::Keep { .. } | Request::Limit { .. }) => &[1, 2, 3, 12, 7, 8, 11],
@@ -51,7 +51,7 @@ fn give_fault(answer: u32, lent: &mut Lent, call: &mut Call) {
         8 => stand(lent, vec![Entry::Keep { place: 0, mask: 7 }; MOST_DECISIONS]),
         9 => stand(lent, vec![Entry::Mark; MOST_MARKS]),
         10 => stand(lent, vec![]),
-        11 => leave_no_roster(lent),
+        11 => leave_no_roster(lent, *call),
         _ => lent.session[0] = 5,
     }
 }
@@ -64,8 +64,13 @@ fn give_range_fault(lent: &mut Lent, call: &mut Call) {
     }
 }
 
-/// No roster is allowed, in the opening and in a session whatever is asked of it.
-fn leave_no_roster(lent: &mut Lent) {
+/// No roster is allowed, in the opening and in a session whatever is asked of it. Masks play no
+/// part in a report: for it, no word is accepted.
+fn leave_no_roster(lent: &mut Lent, call: Call) {
+    if call == Call::Report {
+        lent.rules.accepting = 0;
+        return;
+    }
     lent.masks[1] = 0;
     stand(lent, vec![Entry::Keep { place: 0, mask: 7 }, Entry::Mark]);
 }

@@ -2,7 +2,8 @@ use super::edges::CALLS;
 use super::order::refusals;
 use super::*;
 use crate::script::{Call, CameTo};
-use crate::worked::{FIRST_CASES, KEPT_CASES};
+use crate::words::all_words;
+use crate::worked::{DRAWN_CASES, FIRST_CASES, KEPT_CASES};
 use std::collections::BTreeSet;
 use std::sync::OnceLock;
 
@@ -78,6 +79,25 @@ fn k1_to_k12_print_what_the_paper_says() {
         let line = format!("first\t0\troster{}", fields(worked.roster));
         assert_eq!(printed_by(script, worked.name), [line]);
     }
+}
+
+#[test]
+fn rosters_drawn_on_w_get_what_the_request_says() {
+    let lines = printed_by(fixed(), "drawn rosters on W");
+    let rosters: Vec<Vec<u8>> = (1..=3).flat_map(|places| all_words(places, 3)).collect();
+    assert_eq!(lines.len(), rosters.len());
+    for (roster, report) in DRAWN_CASES {
+        let index = rosters.iter().position(|other| other == roster).unwrap();
+        assert_eq!(lines[index], format!("report\t0\t{report}"), "{roster:?}");
+    }
+    let whole = lines[3 + 9..].iter().filter(|line| *line == "report\t0\t0").count();
+    assert_eq!(whole, 8);
+}
+
+#[test]
+fn where_no_word_is_accepted_every_roster_gets_11() {
+    let answers = answers_by(fixed(), "rosters where no word is accepted");
+    assert_eq!(answers, [[11; 9].as_slice(), &[11, 0, 11, 0, 11, 0]].concat());
 }
 
 #[test]

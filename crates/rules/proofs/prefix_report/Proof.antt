@@ -1,9 +1,13 @@
 use mathlib.Core.Path.{ap, _∙_}
-use Prim.Native.Nat.{ℕ, _-_}
+use mathlib.Core.List.{[]}
 use native.Mathlib.Omega.{arith}
 use borrow.Author.Tests.{eq-eqb, ne-eqb}
-use Rattle.rules.specs.Report.{outcome, reportOf}
-use Rattle.rules.proofs.Checks.{and-fails, and-goes, test-failed, test-passed, size-of, sizes-of, long-tables, rules-tables, refuses, passes, is-done}
+use Rattle.meaning.specs.Prefixes.{acceptedWords}
+use Rattle.meaning.proofs.Prefixes.{costs-apart}
+use Rattle.rules.specs.Inner.{reportRest}
+use Rattle.rules.specs.Report.{reportOf}
+use Rattle.rules.proofs.Lawful.{lawful}
+use Rattle.rules.proofs.Checks.{and-fails, and-goes, test-failed, test-passed, size-of, sizes-of, long-tables, rules-tables, refuses, passes}
 use borrow.Author.Needs.{needs}
 use Rattle.rules.proofs.prefix_report.Statement.{statement}
 use Rattle.rules.proofs.prefix_report.Tie as tie
@@ -68,25 +72,25 @@ returns-5 c =
     (passes _ _ _ _ _ (test-passed (c .before .before .before .before .rules-right .ensures ∙ rules-tables _ _ _ _ _ _ (sizes-of _ _ _ _ s .size) l) (c .before .before .before .if4 .left))
     (refuses _ _ _ _ _ (test-failed (c .before .before .values-right .ensures) (c .before .if5 .taken)))))
 
-steps-made-requires : tie.Need-steps-made-requires
-steps-made-requires c κs =
-    let s = size-of _ _ _ (sizes-of _ _ _ _ (test-passed (c .before .before .before .before .before .before .before .before .before .sizes-right .ensures) (c .before .before .before .before .before .before .before .before .if1 .left)) .size) in
-    let l = long-tables _ _ (test-passed (c .before .before .before .before .before .before .before .tables-long .ensures) (c .before .before .before .before .before .before .if2 .left)) in
-    (s .few-states, s .few-values, l .0, s .start-state, test-passed (c .before .before .values-right .ensures) (c .before .if5 .left))
-
-sub-t13 : tie.Need-sub-t13
-sub-t13 c = omega (arith, c .steps-made .ensures .few, c .before .before .before .before .before .before .if3 .left)
+report-drawn-requires : tie.Need-report-drawn-requires
+report-drawn-requires c κs =
+    let n = sizes-of _ _ _ _ (test-passed (c .before .before .before .before .before .before .before .before .sizes-right .ensures) (c .before .before .before .before .before .before .before .if1 .left)) in
+    let l = test-passed (c .before .before .before .before .before .before .tables-long .ensures) (c .before .before .before .before .before .if2 .left) in
+    let r = test-passed (c .before .before .before .rules-right .ensures ∙ rules-tables _ _ _ _ _ _ (n .size) l) (c .before .before .if4 .left) in
+    let s = size-of _ _ _ (n .size) in
+    (s .few-states, s .few-values, long-tables _ _ l .0, lawful _ _ _ _ _ r .bits, s .start-state, omega (arith, n .few-places, c .before .before .before .before .if3 .left), test-passed (c .before .values-right .ensures) (c .if5 .left))
 
 returns-6 : tie.Need-returns-6
 unfolding reportOf
 returns-6 c =
-    let a = c .before .before .before .before .before .before .before .before .before .before .before .before .before .before .args in
-    let s = test-passed (c .before .before .before .before .before .before .before .before .before .before .sizes-right .ensures) (c .before .before .before .before .before .before .before .before .before .if1 .left) in
-    let l = test-passed (c .before .before .before .before .before .before .before .before .tables-long .ensures) (c .before .before .before .before .before .before .before .if2 .left) in
-    passes _ _ _ _ _ s (passes _ _ _ _ _ (and-goes _ _ _ l (eq-eqb _ _ (c .before .before .before .before .before .before .if3 .left)))
-    (passes _ _ _ _ _ (test-passed (c .before .before .before .before .before .rules-right .ensures ∙ rules-tables _ _ _ _ _ _ (sizes-of _ _ _ _ s .size) l) (c .before .before .before .before .if4 .left))
-    (passes _ _ _ _ _ (test-passed (c .before .before .before .values-right .ensures) (c .before .before .if5 .left))
-    (ap (λ (x : ℕ). outcome 0 (a .places - x)) (c .steps-made .ensures .right (a .costs .now)) ∙ is-done _ _))))
+    let a = c .before .before .before .before .before .before .before .before .before .before .before .before .before .args in
+    let s = test-passed (c .before .before .before .before .before .before .before .before .before .sizes-right .ensures) (c .before .before .before .before .before .before .before .before .if1 .left) in
+    let l = test-passed (c .before .before .before .before .before .before .before .tables-long .ensures) (c .before .before .before .before .before .before .if2 .left) in
+    let n = c .before .before .before .before .before .if3 .left in
+    passes _ _ _ _ _ s (passes _ _ _ _ _ (and-goes _ _ _ l (eq-eqb _ _ n))
+    (passes _ _ _ _ _ (test-passed (c .before .before .before .before .rules-right .ensures ∙ rules-tables _ _ _ _ _ _ (sizes-of _ _ _ _ s .size) l) (c .before .before .before .if4 .left))
+    (passes _ _ _ _ _ (test-passed (c .before .before .values-right .ensures) (c .before .if5 .left))
+    (c .report-drawn .ensures ∙ ap (reportRest (a .roster .now)) (costs-apart _ _ _ [] (a .costs .now) _ _ _ ∙ ap (acceptedWords _ _) n)))))
 
 pub prefix-report-spec : {M : Type 1} → statement M
 prefix-report-spec =
@@ -106,6 +110,5 @@ prefix-report-spec =
     values-right-requires
     refused-requires-5
     returns-5
-    steps-made-requires
-    sub-t13
+    report-drawn-requires
     returns-6)

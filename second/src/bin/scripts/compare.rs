@@ -31,6 +31,7 @@ pub fn compare(mut cases: Cases, program: &str, arguments: &[&str]) -> io::Resul
         }
     }
     watch.print_tally();
+    println!("{} cases", watch.cases);
     println!("{} passed, {} failed", watch.passed, watch.failed);
     Ok(watch.failed == 0)
 }
@@ -54,6 +55,7 @@ fn run(command: &mut Command, input: Vec<u8>) -> io::Result<(Vec<u8>, bool)> {
 /// What has been seen so far.
 #[derive(Default)]
 struct Watch {
+    cases: usize,
     passed: usize,
     failed: usize,
     /// How often each call came to each result.
@@ -63,6 +65,7 @@ struct Watch {
 impl Watch {
     fn hold_against(&mut self, script: &Script, printed: &[u8]) {
         let mut lines = printed.split_inclusive(|byte| *byte == b'\n');
+        self.cases += script.cases().len();
         for case in script.cases() {
             for expected in &case.printed {
                 self.hold_line(case, expected, lines.next());

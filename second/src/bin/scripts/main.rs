@@ -3,9 +3,11 @@
 //! - `scripts write SEED COUNT SCRIPT ANSWERS` writes one script and its lines to two files.
 //! - `scripts compare SEED COUNT PROGRAM [ARGUMENT...]` has a program carry such scripts out
 //!   and compares what it prints. The last line is `N passed, M failed`.
+//! - `scripts only KIND SEED COUNT PROGRAM [ARGUMENT...]` does the same with random cases of
+//!   one kind alone.
 //!
-//! Both begin with the fixed cases and go on with random ones from the seed until at least
-//! COUNT calls are made.
+//! The first two begin with the fixed cases and go on with random ones from the seed. All make
+//! at least COUNT calls.
 
 mod compare;
 
@@ -15,7 +17,8 @@ use std::process::ExitCode;
 use std::{env, fs, io};
 
 const USAGE: &str = "usage: scripts write SEED COUNT SCRIPT ANSWERS\n       \
-    scripts compare SEED COUNT PROGRAM [ARGUMENT...]";
+    scripts compare SEED COUNT PROGRAM [ARGUMENT...]\n       \
+    scripts only KIND SEED COUNT PROGRAM [ARGUMENT...]";
 
 fn main() -> ExitCode {
     let arguments: Vec<String> = env::args().skip(1).collect();
@@ -25,6 +28,9 @@ fn main() -> ExitCode {
         }
         ["compare", seed, count, program, rest @ ..] => {
             cases(seed, count).map(|cases| compare::compare(cases, program, rest))
+        }
+        ["only", kind, seed, count, program, rest @ ..] => {
+            cases_of(kind, seed, count).map(|cases| compare::compare(cases, program, rest))
         }
         _ => None,
     };
@@ -43,6 +49,10 @@ fn main() -> ExitCode {
 
 fn cases(seed: &str, count: &str) -> Option<Cases> {
     Some(Cases::new(seed.parse().ok()?, count.parse().ok()?))
+}
+
+fn cases_of(kind: &str, seed: &str, count: &str) -> Option<Cases> {
+    Cases::only(kind, seed.parse().ok()?, count.parse().ok()?)
 }
 
 /// Writes one script of all the cases, and the lines that it must print.

@@ -1,8 +1,9 @@
 use Prim.Native.Nat.{_≤_, _-_, _*_, _%_, _^_}
 use mathlib.Core.Path.{_≡_, refl, _∙_}
 use mathlib.Core.Logic.{⊎-elim}
+use Rattle.kinds.proofs.Bits.{next-bit}
 use Rattle.reach.specs.Looks.{liveOf}
-use Rattle.reach.proofs.Living.{next-bit, live-none, live-more, live-skip, live-end}
+use Rattle.reach.proofs.Living.{live-none, live-more, live-skip, live-end}
 use borrow.Author.Needs.{needs}
 use native.Mathlib.Omega.{arith}
 use Rattle.reach.proofs.forward.living.Statement.{statement}
@@ -37,7 +38,7 @@ loop-less c = search needs
 
 loop-again : tie.Need-loop-again Inv-loop μ-loop
 loop-again c = let l = c .before .before .before .before .before .before .loop in
-    let b = next-bit (l .q .0) (l .bit) (omega arith) (l .inv .2) in
+    let b = next-bit 64 (l .q .0) (l .bit) (omega arith) (l .inv .2) in
     ⊎-elim
     (λ w. (omega arith, w .1 ∙ live-more _ (l .q .0) (l .live) (l .bit) (omega arith) (l .inv .1) (l .inv .2) (w .0 .taken), b))
     (λ w. (omega arith, w .1 ∙ live-skip _ (l .q .0) (l .live) (l .inv .1) (w .0 .left), b))

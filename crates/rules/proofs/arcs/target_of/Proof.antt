@@ -1,8 +1,8 @@
 use native.Mathlib.Omega.{arith}
 use Rattle.rules.proofs.Checks.{arc-place}
 use borrow.Author.Needs.{needs}
-use Rattle.rules.proofs.steps.target_of.Statement.{statement}
-use Rattle.rules.proofs.steps.target_of.Tie as tie
+use Rattle.rules.proofs.arcs.target_of.Statement.{statement}
+use Rattle.rules.proofs.arcs.target_of.Tie as tie
 
 cast-arc-at : tie.Need-cast-arc-at
 cast-arc-at c = omega (arith, c .before .pre .0)
