@@ -1,10 +1,10 @@
--- What the check of the tables says of them, entry by entry; that no roster of a lawful rule set passes the top; and that kept masks pass
--- the check of masks. Assumes nothing.
+-- What the check of the tables says of them, entry by entry; that no roster of a lawful rule set passes the top, so that only masks and lower
+-- limits tell its rosters from its accepted words; and that kept masks pass the check of masks. Assumes nothing.
 use mathlib.Core.Path.{_≡_, refl}
 use mathlib.Core.Logic.{_⊎_, ⊎-elim, inl, inr}
-use mathlib.Core.Bool.{Bool, true, _&&_, or-true}
+use mathlib.Core.Bool.{Bool, true, false, _&&_, and-false, or-true}
 use mathlib.Core.List.{List, [], _∷_, map}
-use Prim.Native.Nat.{ℕ, zero, suc, _+_, _*_, _^_, _≤_, _<_}
+use Prim.Native.Nat.{ℕ, zero, suc, _+_, _*_, _^_, _≤_, _<_, min}
 use native.Mathlib.Decide.{ℕ-discrete}
 use native.Mathlib.Omega.{arith}
 use lib.Arith.{digits-lt}
@@ -12,12 +12,15 @@ use lib.Dec.{eqb, leb, ltb}
 use lib.ListN.{length, getD, take}
 use lib.Seq.{take-length}
 use borrow.Author.Tests.{eq-eqb, eqb-true, leb-true, ltb-true, lt-ltb, le-leb}
+use Rattle.kinds.specs.Bits.{bit}
 use Rattle.meaning.specs.Bounds.{mostPlaces, mostCost, noTarget, top}
 use Rattle.meaning.specs.Lists.{from, all}
-use Rattle.meaning.specs.Meaning.{Rules, rulesOf, target, cost, hasArc, accepted, total, Place, rosters, keptAt, kept, verdictOf}
+use Rattle.meaning.specs.Meaning.{Rules, rulesOf, target, cost, hasArc, accepted, total, Place, fits, words, rosters, keptAt, kept, verdictOf}
+use Rattle.meaning.specs.Prefixes.{acceptedWords}
 use Rattle.rules.specs.Checks.{arcRight, tablesFrom, tablesRight, masksRight}
 use Rattle.rules.proofs.Checks.{both, or-cases}
-use Rattle.meaning.proofs.Members.{Below}
+use Rattle.meaning.proofs.Lists.{those-same}
+use Rattle.meaning.proofs.Members.{Below, words-in}
 use Rattle.meaning.proofs.Kept.{kept-lt}
 
 abbrev pub ArcIn : ℕ → ℕ → ℕ → Type 0
@@ -92,6 +95,34 @@ module _ (r : Rules) (w : Lawful r) where
   pub roster-top : (q : ℕ) (xs : List ℕ) → length xs ≤ mostPlaces → q < r .arcs .states → Below (r .arcs .values) xs → accepted r q xs ≡ true
       → total (r .arcs) q 0 xs ≤ top
   roster-top q xs l h b a = rw (take-length xs) at (running-top (length xs) q xs l h b a)
+
+  -- WHERE NEITHER MASKS NOR LIMITS FORBID ANY, THE ROSTERS ARE THE ACCEPTED WORDS
+  abbrev Free : List Place → Type 0
+  Free [] = Unit {0}
+  Free (p ∷ ps) = ((v : ℕ) → v < r .arcs .values → bit (p .mask) v ≡ true) × (top ≤ p .limit) × Free ps
+
+  free-fits : (q c : ℕ) (ps : List Place) (xs : List ℕ) → Free ps → length xs ≡ length ps → q < r .arcs .states → Below (r .arcs .values) xs → accepted r q xs ≡ true
+      → c + length xs * mostCost ≤ top → fits (r .arcs) q c ps xs ≡ true
+  free-fits q c [] [] f e h b a l = refl
+  free-fits q c [] (v ∷ xs) f e h b a l = absurd (omega arith)
+  free-fits q c (p ∷ ps) [] f e h b a l = absurd (omega arith)
+  free-fits q c (p ∷ ps) (v ∷ xs) f e h b a l =
+      let k = both (hasArc (r .arcs) q v) _ a in
+      let m : cost (r .arcs) q v ≤ mostCost = cost-most q v h (b .0) in
+      rw (
+        f .0 v (b .0),
+        le-leb (c + cost (r .arcs) q v) (min (p .limit) top) (omega (arith, f .1)),
+        free-fits (target (r .arcs) q v) (c + cost (r .arcs) q v) ps xs (f .2) (omega arith) (ltb-true _ _ (k .0)) (b .1) (k .1) (omega arith),
+      )
+
+  pub free-rosters : (q : ℕ) (ps : List Place) → Free ps → length ps ≤ mostPlaces → q < r .arcs .states → rosters r q 0 ps ≡ acceptedWords r q (length ps)
+  unfolding rosters acceptedWords
+  free-rosters q ps f l h =
+      those-same _ _ (words (r .arcs .values) (length ps)) (λ xs m. let t = words-in (r .arcs .values) (length ps) xs m in go xs t (accepted r q xs) refl)
+    where
+      go : (xs : List ℕ) → (length xs ≡ length ps) × Below (r .arcs .values) xs → (b : Bool) → accepted r q xs ≡ b → (fits (r .arcs) q 0 ps xs && b) ≡ b
+      go xs t true a = rw (free-fits q 0 ps xs f (t .0) h (t .1) a (unfold top in (omega (arith, t .0))))
+      go xs t false a = and-false (fits (r .arcs) q 0 ps xs)
 
 -- no kept mask has a bit at or above V
 pub kept-right : (r : Rules) (q c : ℕ) (ps : List Place) → masksRight (r .arcs .values) (verdictOf r q c ps .masks) ≡ true
