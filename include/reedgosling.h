@@ -75,8 +75,8 @@ enum reedgosling_answer {
     REEDGOSLING_DECISIONS_FULL = 8,  /* a decision when 512 stand: session unchanged */
     REEDGOSLING_MARKS_FULL = 9,      /* a mark when 64 are open: session unchanged */
     REEDGOSLING_NO_MARK = 10,        /* back with no mark open: session unchanged */
-    REEDGOSLING_NO_ROSTER = 11,      /* no roster is allowed (for the first roster: none with that value at that place). A result and no
-                                        refusal: each call says what it leaves behind */
+    REEDGOSLING_NO_ROSTER = 11,      /* no roster is allowed (for the first roster: none with that value at that place; for the prefix
+                                        report: none of length n is accepted). A result and no refusal: each call says what it leaves behind */
     REEDGOSLING_WRONG_MEMORY = 12    /* the session memory is not well-formed: session unchanged */
 };
 
