@@ -26,17 +26,17 @@ fn longer_words(word: &[u8], values: usize) -> Vec<Vec<u8>> {
 
 /// "From the start state a roster follows one arc for each value. A missing arc means not
 /// accepted. It is accepted if the last state is accepting." The running costs, if accepted.
-fn running_costs(case: &Case, word: &[u8]) -> Option<Vec<u32>> {
-    let mut state = usize::from(case.rules.start);
+fn running_costs(rules: &Rules, word: &[u8]) -> Option<Vec<u32>> {
+    let mut state = usize::from(rules.start);
     let mut spent = 0;
     let mut running = Vec::new();
     for &value in word {
-        let (target, cost) = case.rules.arc(state, usize::from(value))?;
+        let (target, cost) = rules.arc(state, usize::from(value))?;
         state = target;
         spent += cost;
         running.push(spent);
     }
-    case.rules.accepts(state).then_some(running)
+    rules.accepts(state).then_some(running)
 }
 
 /// "each value is in its place's mask, and at every place the running cost is at most that
@@ -51,7 +51,7 @@ fn is_within(case: &Case, word: &[u8], running: &[u32]) -> bool {
 pub fn allowed(case: &Case) -> Vec<Costed> {
     all_words(case.places(), case.rules.values)
         .into_iter()
-        .filter_map(|word| running_costs(case, &word).map(|running| (word, running)))
+        .filter_map(|word| running_costs(case.rules, &word).map(|running| (word, running)))
         .filter(|(word, running)| is_within(case, word, running))
         .collect()
 }
@@ -78,10 +78,8 @@ pub fn first_roster(case: &Case, place: usize, value: u8) -> Option<Vec<u8>> {
 /// The length of "the longest prefix that can be extended to an accepted word of full length":
 /// of all accepted words the one that agrees with the roster for longest.
 pub fn longest_prefix(rules: &Rules, roster: &[u8]) -> Option<usize> {
-    let (masks, limits) = (vec![0; roster.len()], vec![0; roster.len()]);
-    let case = Case { rules, masks: &masks, limits: &limits };
     let words = all_words(roster.len(), rules.values).into_iter();
-    let accepted = words.filter(|word| running_costs(&case, word).is_some());
+    let accepted = words.filter(|word| running_costs(rules, word).is_some());
     accepted.map(|word| agreeing(&word, roster)).max()
 }
 

@@ -3,23 +3,17 @@ use mathlib.Core.Path.{_≡_, refl, sym, ap, _∙_}
 use mathlib.Core.Bool.{Bool, true, false, _&&_}
 use mathlib.Core.List.{List, [], _∷_, _++_}
 use Prim.Native.Nat.{ℕ}
-use native.Mathlib.Omega.{arith}
-use lib.Dec.{ltb, eqb}
+use lib.Dec.{eqb}
 use lib.ListN.{length}
-use borrow.Author.Tests.{eqb-true, ltb-true}
+use borrow.Author.Tests.{eqb-true}
 use Rattle.meaning.specs.Bounds.{workSize}
 use Rattle.rules.specs.Checks.{Handed, tablesLong}
 use Rattle.rules.specs.Answers.{Check, check, decided, workAfter}
-use Rattle.rules.proofs.Checks.{both, Passed}
+use Rattle.rules.proofs.Checks.{both, Passed, all-passed, others, answered}
 use Rattle.ledger.specs.Readiness.{Ready, readiness, lentChecks, Lent}
 use Rattle.ledger.specs.Sessions.{Opening}
 use Rattle.ledger.specs.Calls.{openLong}
 use Rattle.ledger.specs.Layout.{memorySize}
-
--- no check has the number 0
-abbrev pub numbered : List Check → Bool
-numbered [] = true
-numbered (check n ok ∷ ks) = ltb 0 n && numbered ks
 
 -- checks that are passed leave the rest to decide
 pub through : {A : Type 0} (ks ls : List Check) (refuse : ℕ → A) (done : A) → Passed ks → decided (ks ++ ls) refuse done ≡ decided ls refuse done
@@ -38,13 +32,11 @@ module _ (w w₀ : List ℕ) where
   refused-on f ls done (check n false ∷ ks) x e h = ap (λ (y : Ready). f (y .answer) (y .work)) e
 
   -- answer 0 says that all are passed
-  pub passed-on : (ks : List Check) (x : Ready) → numbered ks ≡ true
+  pub passed-on : (ks : List Check) (x : Ready) → others 0 ks ≡ true
       → x ≡ decided ks (λ n. readiness n (workAfter n w)) (readiness 0 w₀) → x .answer ≡ 0 → Passed ks × (x .work ≡ w₀)
-  unfolding decided
-  passed-on [] x p e h = (tt, ap (λ (y : Ready). y .work) e)
-  passed-on (check n true ∷ ks) x p e h = let r = passed-on ks x (both (ltb 0 n) (numbered ks) p .1) e h in ((refl, r .0), r .1)
-  passed-on (check n false ∷ ks) x p e h =
-      let z : n ≡ 0 = sym (ap (λ (y : Ready). y .answer) e) ∙ h in absurd (omega (arith, ltb-true 0 n (both (ltb 0 n) (numbered ks) p .0)))
+  passed-on ks x o e h =
+      let p = answered (λ (y : Ready). y .answer) (λ n. readiness n (workAfter n w)) (readiness 0 w₀) (λ n. refl) 0 ks o (sym (ap (λ (y : Ready). y .answer) e) ∙ h) in
+      (p, ap (λ (y : Ready). y .work) (e ∙ all-passed (λ n. readiness n (workAfter n w)) (readiness 0 w₀) ks p))
 
 -- what the checks 1, 2 and 3 say
 module _ (h : Handed) (m : ℕ) (w : List ℕ) (p : Passed (lentChecks h m (length w))) where

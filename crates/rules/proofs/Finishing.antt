@@ -8,10 +8,11 @@ use native.Mathlib.Omega.{arith}
 use native.Mathlib.Decide.{decLt}
 use lib.Bits.{bitAnd, bitOr}
 use lib.Dec.{eqb, ltb}
-use lib.ListN.{getD, set}
+use lib.ListN.{getD}
+use lib.Pow.{pow-pos}
 use borrow.Author.Tests.{eqb-true, eq-eqb, ne-eqb, ltb-true, lt-ltb, le-ltb}
 use Rattle.kinds.specs.Bits.{bit, maskOf}
-use Rattle.kinds.proofs.Bits.{bit-mask, bit-above, mask-lt, mask-is, mask-same, mask-more, mask-skip, put-mask, shl-one}
+use Rattle.kinds.proofs.Bits.{bit-mask, bit-none, bit-above, mask-lt, mask-is, mask-same, mask-more, mask-skip, put-mask, shl-one}
 use Rattle.kinds.proofs.Lowest.{meet-some, meet-none}
 use Rattle.meaning.specs.Lists.{from, any, some, Filled}
 use Rattle.meaning.specs.Meaning.{Arcs, Rules, target, hasArc}
@@ -30,12 +31,8 @@ module _ (a : Arcs) (q : ℕ) where
   reached-more n t = any-more (λ v. eqb t (target a q v)) n
 
   pub next-none : 0 ≡ nextBy a q 0
-  unfolding nextBy maskOf
-  next-none = sym (go (a .states))
-    where
-      go : (k : ℕ) → maskOf (λ t. false) k ≡ 0
-      go zero = refl
-      go (suc k) = mask-skip (λ t. false) k refl ∙ go k
+  unfolding nextBy
+  next-none = mask-is (reached 0) (a .states) 0 (pow-pos (a .states)) (λ t k. bit-none t)
 
   pub next-more : (n m to : ℕ) → a .states ≤ 64 → m ≡ nextBy a q n → to ≡ target a q n → to < a .states → bitOr m (1 * 2 ^ to % 2 ^ 64) ≡ nextBy a q (n + 1)
   unfolding nextBy
