@@ -78,8 +78,9 @@ module _ (r : Rules) (n : ℕ) where
           rw (le-ltb t (r .arcs .states) (omega arith))
           (bit-above (r .arcs .states) (maskOf finishes (r .arcs .states)) t (mask-lt finishes (r .arcs .states)) (omega arith))
 
-  pub finishing-some : (q : ℕ) → q < r .arcs .states → bit (finishing r n) q ≡ some (acceptedWords r q n)
-  finishing-some q l = finishing-bit q ∙ rw (lt-ltb q (r .arcs .states) l)
+  -- so what is found of a state that is one
+  pub finishing-some : {found : ℕ} {b : Bool} (q : ℕ) → q < r .arcs .states → found ≡ finishing r n → b ≡ bit found q → b ≡ some (acceptedWords r q n)
+  finishing-some q l e d = d ∙ rw (e, finishing-bit q, lt-ltb q (r .arcs .states) l)
 
 -- with no value left, the accepting states
 pub finishing-none : (r : Rules) → r .accepting < 2 ^ r .arcs .states → r .accepting ≡ finishing r 0

@@ -2,7 +2,6 @@ use mathlib.Core.Path.{ap, _∙_}
 use Prim.Native.Nat.{ℕ, _-_}
 use lib.ListN.{length}
 use native.Mathlib.Omega.{arith}
-use Rattle.kinds.specs.Bits.{bit}
 use Rattle.meaning.specs.Prefixes.{behind}
 use Rattle.meaning.proofs.Prefixes.{longest-few}
 use Rattle.rules.specs.Report.{outcome}
@@ -26,7 +25,7 @@ refused-requires : tie.Need-refused-requires
 refused-requires c κs = search needs
 
 returns : tie.Need-returns
-returns c = c .refused .ensures ∙ refuses _ _ _ _ _ (test-failed (c .before .before .holds .ensures ∙ (ap (λ (m : ℕ). bit m (c .before .before .before .before .before .before .before .before .before .args .size .start .0)) (c .before .before .before .before .lay .ensures .0) ∙ finishing-some _ _ _ (c .before .before .before .before .before .before .before .before .before .pre .4))) (c .before .if1 .taken))
+returns c = c .refused .ensures ∙ refuses _ _ _ _ _ (test-failed (finishing-some _ _ _ (c .before .before .before .before .before .before .before .before .before .pre .4) (c .before .before .before .before .lay .ensures .0) (c .before .before .holds .ensures)) (c .before .if1 .taken))
 
 slice-aggregate-steps-made : tie.Need-slice-aggregate-steps-made
 slice-aggregate-steps-made c = search needs
@@ -39,7 +38,7 @@ sub-report c = rw (c .steps-made .ensures ∙ steps-longest _ _ _ (c .before .be
 
 returns-2 : tie.Need-returns-2
 unfolding behind
-returns-2 c = passes _ _ _ _ _ (test-passed (c .before .before .before .holds .ensures ∙ (ap (λ (m : ℕ). bit m (c .before .before .before .before .before .before .before .before .before .before .args .size .start .0)) (c .before .before .before .before .before .lay .ensures .0) ∙ finishing-some _ _ _ (c .before .before .before .before .before .before .before .before .before .before .pre .4))) (c .before .before .if1 .left))
+returns-2 c = passes _ _ _ _ _ (test-passed (finishing-some _ _ _ (c .before .before .before .before .before .before .before .before .before .before .pre .4) (c .before .before .before .before .before .lay .ensures .0) (c .before .before .before .holds .ensures)) (c .before .before .if1 .left))
     (ap (λ (m : ℕ). outcome 0 (length (c .before .before .before .before .before .before .before .before .before .before .args .roster .now) - m)) (c .steps-made .ensures ∙ steps-longest _ _ _ (c .before .before .before .before .before .lay .ensures .1) (omega arith) (values-below _ _ (c .before .before .before .before .before .before .before .before .before .before .pre .6))) ∙ is-done _ _)
 
 pub report-drawn-spec : {M : Type 1} → statement M
