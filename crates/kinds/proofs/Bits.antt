@@ -150,6 +150,13 @@ bit-mask f (suc k) v h = go (ℕ-discrete v k) (λ p. bit-mask f k v p)
     go (yes e) ih = rw e (ap (λ (x : ℕ). eqb (x % 2) 1) (high (cond (f k) 1 0) k (mask-lt f k)) ∙ top-bit (f k))
     go (no n) ih = low-bit (cond (f k) 1 0) (maskOf f k) k v (omega arith) (mask-lt f k) ∙ ih (omega arith)
 
+pub mask-bit : (f : ℕ → Bool) (k u : ℕ) → bit (maskOf f k) u ≡ (ltb u k && f u)
+mask-bit f k u = go (decLt u k)
+  where
+    go : Dec (u < k) → bit (maskOf f k) u ≡ (ltb u k && f u)
+    go (yes l) = rw (lt-ltb u k l) (bit-mask f k u l)
+    go (no l) = rw (le-ltb u k (omega arith)) (bit-above k (maskOf f k) u (mask-lt f k) (omega arith))
+
 pub mask-is : (f : ℕ → Bool) (k m : ℕ) → m < 2 ^ k → ((u : ℕ) → u < k → bit m u ≡ f u) → m ≡ maskOf f k
 mask-is f k m h e = bit-ext k m (maskOf f k) h (mask-lt f k) (λ u l. e u l ∙ sym (bit-mask f k u l))
 

@@ -4,14 +4,14 @@ use mathlib.Core.Path.{_≡_, refl, sym, ap, _∙_}
 use mathlib.Core.Bool.{Bool, true, false, cond, not, _&&_, and-self, and-true, and-eq-true-iff, false≢true}
 use Prim.Native.Nat.{ℕ, zero, suc, _-_, _/_, _%_, _^_, _≤_, _<_}
 use native.Mathlib.Nat.{pow-suc}
-use native.Mathlib.Decide.{ℕ-discrete, decLt}
+use native.Mathlib.Decide.{ℕ-discrete}
 use native.Mathlib.Omega.{arith}
 use lib.Bits.{bitAnd, and-lt, and-le-r}
 use lib.Count.{trailingZeros, under, trailing-of-zero}
 use lib.Dec.{eqb, eqb·suc-suc, eqb·suc-zero}
 use borrow.Author.Tests.{ne-eqb}
 use Rattle.kinds.specs.Bits.{width, bit, firstFrom, smallestOf, restOf}
-use Rattle.kinds.proofs.Bits.{bit-zero, bit-suc, bit-and, bit-none, bit-above, bit-mask, mask-is, mask-lt}
+use Rattle.kinds.proofs.Bits.{bit-zero, bit-suc, bit-and, bit-none, bit-below, bit-mask, mask-is, mask-lt}
 
 -- THE LOWEST BIT, as the count of trailing zeros has it
 pub low-set : (k n : ℕ) → 0 < n → n < 2 ^ k → bit n (trailingZeros k n) ≡ true
@@ -129,11 +129,7 @@ module _ (m : ℕ) (some : m ≡ 0 → ⊥) (few : m < 2 ^ width) where
   smallest-set = rw (← smallest-is m) (low-set width m (omega arith) few)
 
   pub smallest-few : smallestOf m < width
-  smallest-few = go (decLt (smallestOf m) width)
-    where
-      go : Dec (smallestOf m < width) → smallestOf m < width
-      go (yes h) = h
-      go (no h) = absurd (false≢true (sym (bit-above width m (smallestOf m) few (omega arith)) ∙ smallest-set))
+  smallest-few = bit-below width m (smallestOf m) few smallest-set
 
   -- the rest of a mask, as the code makes it: it is less
   pub rest-is : bitAnd m (m - 1) ≡ restOf m

@@ -10,7 +10,7 @@ use lib.ListN.{length, getD, take, replicate, length-replicate, getD-replicate, 
 use lib.Pow.{pow-pos}
 use lib.Seq.{ext-getD}
 use Rattle.kinds.specs.Bits.{bit}
-use Rattle.kinds.proofs.Bits.{bit-none, bit-above, bit-mask, mask-lt, mask-is}
+use Rattle.kinds.proofs.Bits.{bit-none, bit-below, bit-mask, mask-lt, mask-is}
 use Rattle.meaning.specs.Meaning.{Rules, Place, rosters, has, keptAt, kept, first, answer, verdict, verdictOn, verdictOf}
 use Rattle.meaning.specs.Lists.{from, those, any}
 
@@ -51,13 +51,11 @@ kept-has vs n ws i v h k = ap (λ (x : ℕ). bit x v) (kept-at vs n ws i h) ∙ 
 
 -- what is in a kept mask is one of the values, at one of the places
 pub kept-inside : (vs n : ℕ) (ws : List (List ℕ)) (i v : ℕ) → bit (getD (kept vs n ws) i 0) v ≡ true → (i < n) × (v < vs)
-kept-inside vs n ws i v e = go (decLt i n) (decLt v vs)
+kept-inside vs n ws i v e = go (decLt i n)
   where
-    go : Dec (i < n) → Dec (v < vs) → (i < n) × (v < vs)
-    go (yes h) (yes k) = (h, k)
-    go (yes h) (no k) =
-        absurd (false≢true (sym (bit-above vs (keptAt vs ws i) v (kept-lt vs ws i) (omega arith)) ∙ rw (kept-at vs n ws i h) at e))
-    go (no h) k =
+    go : Dec (i < n) → (i < n) × (v < vs)
+    go (yes h) = (h, bit-below vs (keptAt vs ws i) v (kept-lt vs ws i) (rw (kept-at vs n ws i h) at e))
+    go (no h) =
         absurd (false≢true (sym (bit-none v) ∙ rw (getD-eq-default (kept vs n ws) 0 {n = i} (omega (arith, kept-length vs n ws))) at e))
 
 -- n masks below 2 ^ vs whose bits are the values that some roster has there are the kept masks

@@ -7,7 +7,7 @@ use mathlib.Core.List.{List·Memᴰ as In, List·Memᴰ·head as head, List·Mem
 use Prim.Native.Nat.{ℕ, zero, suc, _+_, _≤_, _<_, min}
 use native.Mathlib.Omega.{arith}
 use native.Mathlib.Decide.{decLe}
-use lib.ListN.{length}
+use lib.ListN.{length, getD}
 use borrow.Author.Tests.{leb-true, le-leb, ltb-true, lt-ltb}
 use Rattle.kinds.specs.Bits.{bit}
 use Rattle.meaning.specs.Meaning.{Rules, target, cost, hasArc, Place, places, takes, accepted, fits, allowed, words, rosters, least, answer}
@@ -19,6 +19,11 @@ use Rattle.meaning.proofs.Lists.{those-in, in-those, each-in, in-each, 
 abbrev pub Below : ℕ → List ℕ → Type 0
 Below vs [] = Unit {0}
 Below vs (v ∷ w) = (v < vs) × Below vs w
+
+pub below-at : (vs i : ℕ) (w : List ℕ) → Below vs w → i < length w → getD w i 0 < vs
+below-at vs i [] b h = absurd (omega arith)
+below-at vs zero (x ∷ w) b h = b .0
+below-at vs (suc i) (x ∷ w) b h = below-at vs i w (b .1) (omega arith)
 
 -- a word below vs, named by its first value and its rest
 below-of : (vs x : ℕ) (z w : List ℕ) → x ∷ z ≡ w → x < vs → Below vs z → Below vs w

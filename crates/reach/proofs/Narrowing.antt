@@ -12,7 +12,7 @@ use Rattle.kinds.specs.Bits.{width, bit, maskOf}
 use Rattle.kinds.proofs.Bits.{bit-mask, mask-lt, meet-mask}
 use Rattle.meaning.specs.Meaning.{Rules, rulesOf, places, rosters, has, first, Keep}
 use Rattle.meaning.proofs.Narrow.{meets, keep-meets, narrow}
-use Rattle.meaning.proofs.Members.{Below, roster-in, length-places}
+use Rattle.meaning.proofs.Members.{Below, below-at, roster-in, length-places}
 use Rattle.meaning.proofs.Decisions.{keep-stored}
 use Rattle.meaning.proofs.Lists.{those-same}
 use Rattle.rules.specs.Answers.{zeros}
@@ -25,11 +25,6 @@ has-getD : (i v : ℕ) (w : List ℕ) → i < length w → has i v w ≡ eqb (ge
 has-getD i v [] h = absurd (omega arith)
 has-getD zero v (x ∷ w) h = refl
 has-getD (suc i) v (x ∷ w) h = has-getD i v w (omega arith)
-
-below-at : (vs i : ℕ) (w : List ℕ) → Below vs w → i < length w → getD w i 0 < vs
-below-at vs i [] b h = absurd (omega arith)
-below-at vs zero (x ∷ w) b h = b .0
-below-at vs (suc i) (x ∷ w) b h = below-at vs i w (b .1) (omega arith)
 
 -- the masks with value v alone at place i
 abbrev pub alone : List ℕ → ℕ → ℕ → List ℕ

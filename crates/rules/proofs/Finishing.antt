@@ -1,18 +1,17 @@
 -- The states that can finish, layer by layer. Assumes nothing.
 use mathlib.Core.Path.{_≡_, refl, sym, ap, _∙_}
-use mathlib.Core.Bool.{Bool, true, false, not, _&&_, _||_, false≢true, and-eq-true-iff, or-false}
+use mathlib.Core.Bool.{Bool, true, not, _&&_, _||_, false≢true, and-eq-true-iff, or-false}
 use mathlib.Core.List.{List}
 use Prim.Native.Nat.{ℕ, zero, suc, _+_, _*_, _%_, _^_, _≤_, _<_}
 use native.Mathlib.Numerals.{add-one}
 use native.Mathlib.Omega.{arith}
-use native.Mathlib.Decide.{decLt}
 use lib.Bits.{bitAnd, bitOr}
 use lib.Dec.{eqb, ltb}
 use lib.ListN.{getD}
 use lib.Pow.{pow-pos}
-use borrow.Author.Tests.{eqb-true, eq-eqb, ne-eqb, ltb-true, lt-ltb, le-ltb}
+use borrow.Author.Tests.{eqb-true, eq-eqb, ne-eqb, ltb-true, lt-ltb}
 use Rattle.kinds.specs.Bits.{bit, maskOf}
-use Rattle.kinds.proofs.Bits.{bit-mask, bit-none, bit-above, mask-lt, mask-is, mask-same, mask-more, mask-skip, put-mask, shl-one}
+use Rattle.kinds.proofs.Bits.{bit-mask, bit-none, mask-lt, mask-bit, mask-is, mask-same, mask-more, mask-skip, put-mask, shl-one}
 use Rattle.kinds.proofs.Lowest.{meet-some, meet-none}
 use Rattle.meaning.specs.Lists.{from, any, some, Filled}
 use Rattle.meaning.specs.Meaning.{Arcs, Rules, target, hasArc}
@@ -70,13 +69,7 @@ module _ (r : Rules) (n : ℕ) where
 
   pub finishing-bit : (t : ℕ) → bit (finishing r n) t ≡ (ltb t (r .arcs .states) && some (acceptedWords r t n))
   unfolding finishing
-  finishing-bit t = go (decLt t (r .arcs .states))
-    where
-      go : Dec (t < r .arcs .states) → bit (maskOf finishes (r .arcs .states)) t ≡ (ltb t (r .arcs .states) && finishes t)
-      go (yes l) = rw (lt-ltb t (r .arcs .states) l) (bit-mask finishes (r .arcs .states) t l)
-      go (no l) =
-          rw (le-ltb t (r .arcs .states) (omega arith))
-          (bit-above (r .arcs .states) (maskOf finishes (r .arcs .states)) t (mask-lt finishes (r .arcs .states)) (omega arith))
+  finishing-bit t = mask-bit finishes (r .arcs .states) t
 
   -- so what is found of a state that is one
   pub finishing-some : {found : ℕ} {b : Bool} (q : ℕ) → q < r .arcs .states → found ≡ finishing r n → b ≡ bit found q → b ≡ some (acceptedWords r q n)

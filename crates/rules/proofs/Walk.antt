@@ -2,7 +2,7 @@
 use mathlib.Core.Path.{_≡_, sym, _∙_}
 use mathlib.Core.Bool.{Bool, true, false, cond}
 use mathlib.Core.List.{List, [], _∷_}
-use Prim.Native.Nat.{ℕ, zero, suc, _+_, _-_, _*_, _≤_, _<_}
+use Prim.Native.Nat.{ℕ, suc, _+_, _-_, _*_, _≤_, _<_}
 use native.Mathlib.Numerals.{add-one}
 use native.Mathlib.Omega.{arith}
 use lib.Dec.{ltb}
@@ -21,12 +21,6 @@ use Rattle.rules.proofs.Checks.{both}
 use Rattle.rules.proofs.Finishing.{finishing-bit}
 
 -- each value of a right roster is below V
-pub value-below : (v : ℕ) (w : List ℕ) (i : ℕ) → valuesRight v w ≡ true → i < length w → getD w i 0 < v
-unfolding valuesRight
-value-below v [] i h l = absurd (omega arith)
-value-below v (x ∷ w) zero h l = ltb-true x v (both (ltb x v) _ h .0)
-value-below v (x ∷ w) (suc i) h l = value-below v w i (both (ltb x v) _ h .1) (omega arith)
-
 pub values-below : (v : ℕ) (w : List ℕ) → valuesRight v w ≡ true → Below v w
 unfolding valuesRight
 values-below v [] e = tt

@@ -4,9 +4,10 @@ use lib.ListN.{length, drop}
 use native.Mathlib.Nat.{zero-add}
 use native.Mathlib.Omega.{arith}
 use Rattle.kinds.proofs.Bits.{bit-below}
+use Rattle.meaning.proofs.Members.{below-at}
 use Rattle.rules.specs.Inner.{steps}
 use Rattle.rules.proofs.Checks.{test-failed, test-passed}
-use Rattle.rules.proofs.Walk.{value-below, steps-on, steps-stop, steps-end}
+use Rattle.rules.proofs.Walk.{values-below, steps-on, steps-stop, steps-end}
 use borrow.Author.Needs.{needs}
 use Rattle.rules.proofs.steps.steps_made.Statement.{statement}
 use Rattle.rules.proofs.steps.steps_made.Tie as tie
@@ -24,7 +25,7 @@ shared-slice-read-t12 : tie.Need-shared-slice-read-t12 Inv-loop μ-loop
 shared-slice-read-t12 c = search needs
 
 target-of-requires : tie.Need-target-of-requires Inv-loop μ-loop
-target-of-requires c κs = (c .before .before .before .before .before .before .pre .0, c .before .before .before .before .before .before .pre .1, c .before .before .loop .inv .1, value-below _ _ _ (c .before .before .before .before .before .before .pre .4) (c .before .loop-test .taken))
+target-of-requires c κs = (c .before .before .before .before .before .before .pre .0, c .before .before .before .before .before .before .pre .1, c .before .before .loop .inv .1, below-at _ _ (c .before .before .before .before .before .before .args .roster .now) (values-below _ _ (c .before .before .before .before .before .before .pre .4)) (c .before .loop-test .taken))
 
 add-i : tie.Need-add-i Inv-loop μ-loop
 add-i c = search needs
