@@ -6,8 +6,13 @@
      both     half's masks and limits made likewise
      eighth   at one place in eight one value alone, that of an accepted roster; else full masks
      single   at every place one value alone, that of an accepted roster
-     few      at every place one to three values, that of an accepted roster among them */
+     few      at every place one to three values, that of an accepted roster among them
+     ill0     full masks; the drawn roster, which a planner or a checker looks at besides, is an accepted one
+     ill3     the same, and its value struck from the mask at three places, evenly spread
+     ill7     at seven
+     well     as ill0, and no change is asked for: the planner is lent 0 in place of 7 */
 #include "peers/filt.h"
+#include "peers/mend.h"
 #include <stdio.h>
 #include <stdlib.h>
 #include <string.h>
@@ -18,7 +23,8 @@ enum { PLACES = 366, STATES = 64, NONE = 1000000 };
 
 static uint32_t work[(PLACES + 1) * STATES], limits[PLACES], dear[PLACES + 1][STATES];
 static uint16_t masks[PLACES], kept[PLACES];
-static uint8_t roster[PLACES];
+uint8_t drawn_roster[PLACES];
+uint32_t most_changes = 7;
 static rules_t rules;
 static uint32_t seed = 20261115;
 
@@ -81,7 +87,7 @@ static void draw(uint32_t n, int cheapest, uint32_t *spent)
             uint32_t rest = dear[i + 1][rules.target[arc]];
             if (rest < NONE && (!cheapest || rules.cost[arc] + rest == dear[i][q])) break;
         }
-        roster[i] = v;
+        drawn_roster[i] = v;
         cost += rules.cost[q * rules.V + v];
         q = rules.target[q * rules.V + v];
         spent[i] = cost;
@@ -92,21 +98,28 @@ static int make_input(uint32_t n, const char *input)
 {
     int halved = !strcmp(input, "half") || !strcmp(input, "both"), bound = !strcmp(input, "bind") || !strcmp(input, "both");
     int eighth = !strcmp(input, "eighth"), single = !strcmp(input, "single"), few = !strcmp(input, "few");
+    int well = !strcmp(input, "well"), ill = !strncmp(input, "ill", 3) && input[3] && strchr("037", input[3]) && !input[4];
     static uint32_t spent[PLACES];
     for (uint32_t i = 0; i < n; i++) { limits[i] = 366000; masks[i] = (1u << rules.V) - 1; }
     if (halved || eighth || single || few) {
         draw(n, 0, spent);
         for (uint32_t i = 0; i < n; i++) {
-            if (halved) masks[i] = drawn(1u << rules.V) | 1u << roster[i];
-            if (single || few || (eighth && i % 8 == 3)) masks[i] = 1u << roster[i];
+            if (halved) masks[i] = drawn(1u << rules.V) | 1u << drawn_roster[i];
+            if (single || few || (eighth && i % 8 == 3)) masks[i] = 1u << drawn_roster[i];
             for (uint32_t more = few ? drawn(3) : 0; more > 0; more--) masks[i] |= 1u << drawn(rules.V);
         }
+    }
+    if (well) most_changes = 0;
+    if (ill || well) {
+        uint32_t struck = well ? 0 : input[3] - '0';
+        draw(n, 0, spent);
+        for (uint32_t k = 1; k <= struck; k++) masks[n * k / (struck + 1)] &= ~(1u << drawn_roster[n * k / (struck + 1)]);
     }
     if (bound) {
         draw(n, 1, spent);
         for (uint32_t i = 0; i < n; i++) limits[i] = spent[i] + (rules.Q == 6 ? 2 : 300);
     }
-    return halved || bound || eighth || single || few || !strcmp(input, "full");
+    return halved || bound || eighth || single || few || ill || well || !strcmp(input, "full");
 }
 
 int main(int argc, char **argv)

@@ -1,5 +1,5 @@
-/* The proved filter, first roster and prefix report behind the peers' signature. */
-#include "peers/filt.h"
+/* The proved filter, first roster, prefix report, planner and checker behind the peers' signature. */
+#include "peers/mend.h"
 #include "reedgosling.h"
 
 #define RULES(r) (r)->Q, (r)->V, (r)->start, (r)->target, REEDGOSLING_TABLE_SIZE, (r)->cost, REEDGOSLING_TABLE_SIZE, (r)->acc
@@ -30,5 +30,27 @@ int report(const rules_t *r, uint32_t n, const uint16_t *masks, const uint32_t *
     for (uint32_t i = 0; i < n; i++) roster[i] = kept[i] = __builtin_ctz(masks[i]);
     uint32_t answer = reedgosling_prefix_report(n, RULES(r), roster, n, &behind);
     *least = behind;
+    return answer;
+}
+
+/* The driver's roster mended. The proposal stands in kept, its changes in least. */
+int proved_mend(const rules_t *r, uint32_t n, const uint16_t *masks, const uint32_t *limits, uint16_t *kept, uint32_t *least, uint32_t *work)
+{
+    static uint8_t roster[REEDGOSLING_MOST_PLACES];
+    static uint32_t plan[REEDGOSLING_PLAN_LENGTH(REEDGOSLING_MOST_PLACES)];
+    (void)work;
+    uint32_t answer = reedgosling_mend(n, RULES(r), masks, n, limits, n, drawn_roster, n, most_changes, roster, n,
+        plan, REEDGOSLING_PLAN_LENGTH(n), least);
+    for (uint32_t i = 0; i < n; i++) kept[i] = roster[i];
+    return answer;
+}
+
+/* The driver's roster checked as it was drawn. What the checker says stands in least. */
+int proved_check(const rules_t *r, uint32_t n, const uint16_t *masks, const uint32_t *limits, uint16_t *kept, uint32_t *least, uint32_t *work)
+{
+    uint8_t says = 0;
+    (void)kept, (void)work;
+    uint32_t answer = reedgosling_check(n, RULES(r), masks, n, limits, n, drawn_roster, n, drawn_roster, n, 0, &says);
+    *least = says;
     return answer;
 }

@@ -10,7 +10,7 @@
    - What a call writes overlaps with nothing else that is handed to the same call. What is only read may overlap.
    - No other thread writes what is lent while the call runs, nor reads what is written. The library holds nothing between calls, so calls
      that are lent different memory may run at the same time.
-   - There is stack enough: 128 kilobytes are (tools/check-c). */
+   - There is stack enough: 384 kilobytes are (tools/check-c), of which reedgosling_mend_job takes the most, for its own work table. */
 #ifndef REEDGOSLING_H
 #define REEDGOSLING_H
 
@@ -39,6 +39,10 @@ extern "C" {
 /* The numbers of a work table for n places. */
 #define REEDGOSLING_WORK_LENGTH(n) (((n) + 1) * 64)
 
+/* The most changes that a planner can be asked for, and the numbers of the work table that it is lent for n places. */
+#define REEDGOSLING_MOST_CHANGES 7
+#define REEDGOSLING_PLAN_LENGTH(n) (8 * ((n) + 1) * 64)
+
 /* A session: the numbers of its memory for n places, and what may stand in it. */
 #define REEDGOSLING_SESSION_LENGTH(n) (3 * (n) + 1792)
 #define REEDGOSLING_MOST_DECISIONS 512
@@ -59,8 +63,8 @@ extern "C" {
    that fails is the answer. All but 0 and 11 are refusals.
    What an answer leaves unchanged are slices: under 1 and 2 every slice, under the other refusals those named below. The work table is a
    slice too, but no output: it is all zeros after every answer but 1 and 2.
-   A single number that a call gives back through a pointer without a length (least, report, line, states, values, start, accepting, length) is
-   written under every answer: under a refusal or 11 it is 0, save the line under 5. */
+   A single number that a call gives back through a pointer without a length (least, report, changes, says, line, states, values, start,
+   accepting, length) is written under every answer: under a refusal or 11 it is 0, save the line under 5. */
 enum reedgosling_answer {
     REEDGOSLING_DONE = 0,            /* done */
     REEDGOSLING_WRONG_SIZE = 1,      /* n, Q or V outside its range, or start not below Q: no slice changed */
@@ -70,13 +74,14 @@ enum reedgosling_answer {
     REEDGOSLING_WRONG_MASK = 4,      /* a choice mask has a bit at or above V: outputs unchanged */
     REEDGOSLING_WRONG_SHEET = 5,     /* the sheet is wrong; its first wrong line is told, from 1: tables unchanged */
     REEDGOSLING_SHORT_BUFFER = 6,    /* the sheet to be written is longer than the buffer: buffer unchanged */
-    REEDGOSLING_OUT_OF_RANGE = 7,    /* a place, value or decision mask out of range, or a roster value not below V: outputs and session
-                                        unchanged */
+    REEDGOSLING_OUT_OF_RANGE = 7,    /* a place, value or decision mask out of range, a roster value not below V, or more than
+                                        REEDGOSLING_MOST_CHANGES changes asked for: outputs and session unchanged */
     REEDGOSLING_DECISIONS_FULL = 8,  /* a decision when 512 stand: session unchanged */
     REEDGOSLING_MARKS_FULL = 9,      /* a mark when 64 are open: session unchanged */
     REEDGOSLING_NO_MARK = 10,        /* back with no mark open: session unchanged */
     REEDGOSLING_NO_ROSTER = 11,      /* no roster is allowed (for the first roster: none with that value at that place; for the prefix
-                                        report: none of length n is accepted). A result and no refusal: each call says what it leaves behind */
+                                        report: none of length n is accepted; for the planner: none with so few changes). A result and no
+                                        refusal: each call says what it leaves behind */
     REEDGOSLING_WRONG_MEMORY = 12    /* the session memory is not well-formed: session unchanged */
 };
 
@@ -111,6 +116,28 @@ uint32_t reedgosling_prefix_report(
     size_t places, size_t states, size_t values, uint8_t start,
     const uint8_t *targets, size_t targets_length, const uint16_t *costs, size_t costs_length, uint64_t accepting,
     const uint8_t *roster, size_t roster_length, size_t *report);
+
+/* Mends a drawn roster: gives the allowed roster that differs from it in the fewest places, at most so many; of several the one that comes
+   first when compared place by place, smaller value first. The drawn roster itself need not be allowed.
+   Lent: masks, limits, drawn and roster with n entries each, work with REEDGOSLING_PLAN_LENGTH(n).
+   Returns 0, 1, 2, 3, 4, 7 (most above REEDGOSLING_MOST_CHANGES, or a drawn value not below V) or 11 (no allowed roster has so few
+   changes). Under 0 roster has it and changes the number of places where it differs from drawn; else roster is unchanged and changes 0. */
+uint32_t reedgosling_mend(
+    size_t places, size_t states, size_t values, uint8_t start,
+    const uint8_t *targets, size_t targets_length, const uint16_t *costs, size_t costs_length, uint64_t accepting,
+    const uint16_t *masks, size_t masks_length, const uint32_t *limits, size_t limits_length,
+    const uint8_t *drawn, size_t drawn_length, uint32_t most,
+    uint8_t *roster, size_t roster_length, uint32_t *work, size_t work_length, uint32_t *changes);
+
+/* Checks a proposal, whoever made it: whether the roster is allowed and differs from the drawn one in just so many places as claimed.
+   Lent: masks, limits, drawn and roster with n entries each. No work table.
+   Returns 0, 1, 2, 3, 4 or 7 (a value not below V in either roster). Any number may be claimed. Under 0 says has 1 for yes and 0 for no;
+   else 0. */
+uint32_t reedgosling_check(
+    size_t places, size_t states, size_t values, uint8_t start,
+    const uint8_t *targets, size_t targets_length, const uint16_t *costs, size_t costs_length, uint64_t accepting,
+    const uint16_t *masks, size_t masks_length, const uint32_t *limits, size_t limits_length,
+    const uint8_t *drawn, size_t drawn_length, const uint8_t *roster, size_t roster_length, uint32_t claimed, uint8_t *says);
 
 /* Reads a sheet from its text.
    Lent: text of any length, targets and costs with REEDGOSLING_TABLE_SIZE entries each.
@@ -175,6 +202,9 @@ uint32_t reedgosling_back(
    Returns the length of the whole text. As much of it as there is room for stands at the beginning of output, and the bytes past it are
    unchanged; REEDGOSLING_LONGEST_OUTPUT has room for every text. */
 size_t reedgosling_job(const uint8_t *input, size_t input_length, uint8_t *output, size_t output_length);
+
+/* The mending program's work: likewise, for an input whose job ends with the lines `drawn` and `most`. */
+size_t reedgosling_mend_job(const uint8_t *input, size_t input_length, uint8_t *output, size_t output_length);
 
 #ifdef __cplusplus
 }

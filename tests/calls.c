@@ -11,7 +11,7 @@
 
 /* ---- what a script works on */
 
-enum { TARGETS, COSTS, MASKS, LIMITS, KEPT, ROSTER, WORK, SESSION, INPUT, OUTPUT, SLICES };
+enum { TARGETS, COSTS, MASKS, LIMITS, KEPT, ROSTER, WORK, SESSION, INPUT, OUTPUT, DRAWN, PLAN, SLICES };
 
 struct slice {
     const char *name;
@@ -35,6 +35,8 @@ static struct slice slices[SLICES] = {
     [SESSION] = {.name = "session", .width = 4, .room = 3000},
     [INPUT] = {.name = "input", .width = 1, .room = 33000},
     [OUTPUT] = {.name = "output", .width = 1, .room = 20000},
+    [DRAWN] = {.name = "drawn", .width = 1, .room = 400},
+    [PLAN] = {.name = "plan", .width = 4, .room = 190000},
 };
 
 enum { PLACES, STATES, VALUES, START, ACCEPTING, SIZES };
@@ -191,6 +193,22 @@ static struct told call_report(void)
     return (struct told){2, {answer, report}};
 }
 
+static struct told call_mend(void)
+{
+    uint32_t changes = UINT32_MAX, most = (uint32_t)numbers[0];
+    uint32_t answer =
+        reedgosling_mend(HANDED, LENT(MASKS), LENT(LIMITS), LENT(DRAWN), most, LENT(ROSTER), LENT(PLAN), &changes);
+    return (struct told){2, {answer, changes}};
+}
+
+static struct told call_check(void)
+{
+    uint8_t says = UINT8_MAX;
+    uint32_t claimed = (uint32_t)numbers[0];
+    uint32_t answer = reedgosling_check(HANDED, LENT(MASKS), LENT(LIMITS), LENT(DRAWN), LENT(ROSTER), claimed, &says);
+    return (struct told){2, {answer, says}};
+}
+
 static struct told call_read(void)
 {
     size_t line = SIZE_MAX, states = SIZE_MAX, values = SIZE_MAX;
@@ -237,6 +255,11 @@ static struct told call_job(void)
     return (struct told){1, {reedgosling_job(LENT(INPUT), LENT(OUTPUT))}};
 }
 
+static struct told call_mendjob(void)
+{
+    return (struct told){1, {reedgosling_mend_job(LENT(INPUT), LENT(OUTPUT))}};
+}
+
 /* A call: its name, how many numbers its line has, the slices that it is lent, one bit each, and how it is made. */
 struct call {
     const char *name;
@@ -255,6 +278,8 @@ static const struct call calls[] = {
     {"filter", 0, TABLES | CHOICES | 1u << KEPT | 1u << WORK, call_filter},
     {"first", 2, TABLES | CHOICES | 1u << ROSTER | 1u << WORK, call_first},
     {"report", 0, TABLES | 1u << ROSTER, call_report},
+    {"mend", 1, TABLES | CHOICES | 1u << ROSTER | 1u << DRAWN | 1u << PLAN, call_mend},
+    {"check", 1, TABLES | CHOICES | 1u << ROSTER | 1u << DRAWN, call_check},
     {"read", 0, TABLES | 1u << INPUT, call_read},
     {"write", 0, TABLES | 1u << OUTPUT, call_write},
     {"open", 0, TABLES | CHOICES | MEMORY, call_open},
@@ -263,6 +288,7 @@ static const struct call calls[] = {
     {"mark", 0, TABLES | MEMORY, call_mark},
     {"back", 0, TABLES | MEMORY, call_back},
     {"job", 0, 1u << INPUT | 1u << OUTPUT, call_job},
+    {"mendjob", 0, 1u << INPUT | 1u << OUTPUT, call_mendjob},
 };
 
 static void print_number(uint64_t number)

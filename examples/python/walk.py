@@ -35,6 +35,7 @@ arc 5 1 3 2
 PLACES = 3
 TABLE_SIZE = 1024
 WORK_LENGTH = (PLACES + 1) * 64
+PLAN_LENGTH = 8 * WORK_LENGTH
 SESSION_LENGTH = 3 * PLACES + 1792
 RESULT, LEAST, KEPT = 0, 1, 2  # where a session's memory shows them
 
@@ -60,6 +61,7 @@ class Rota:
         # An answer number fits ctypes' own result, a C int; the length that a job returns is wider.
         self.library = ctypes.CDLL(path)
         self.library.reedgosling_job.restype = c_size_t
+        self.library.reedgosling_mend_job.restype = c_size_t
         self.targets = slice_of(c_uint8, [0] * TABLE_SIZE)
         self.costs = slice_of(c_uint16, [0] * TABLE_SIZE)
         self.work = slice_of(c_uint32, [0] * WORK_LENGTH)
@@ -102,6 +104,19 @@ class Rota:
         answer = self.call("prefix_report", *lent(slice_of(c_uint8, roster)), byref(report))
         return answer, report.value
 
+    def mend(self, masks, limits, drawn, most):
+        roster, plan, changes = slice_of(c_uint8, [0] * PLACES), slice_of(c_uint32, [0] * PLAN_LENGTH), c_uint32()
+        answer = self.call(
+            "mend", *lent(masks), *lent(limits), *lent(slice_of(c_uint8, drawn)), c_uint32(most), *lent(roster), *lent(plan),
+            byref(changes))
+        return answer, changes.value, roster
+
+    def check(self, masks, limits, drawn, roster, claimed):
+        says = c_uint8()
+        answer = self.call(
+            "check", *lent(masks), *lent(limits), *lent(slice_of(c_uint8, drawn)), *lent(roster), c_uint32(claimed), byref(says))
+        return answer, "yes" if says.value else "no"
+
     def open(self, masks, limits):
         return self.call("open", *lent(masks), *lent(limits), *lent(self.memory), *lent(self.work))
 
@@ -114,9 +129,9 @@ class Rota:
         kept = self.memory[KEPT:KEPT + PLACES]
         return f"result {self.memory[RESULT]}, kept {spelled(kept)}, least cost {self.memory[LEAST]}"
 
-    def job(self, text):
+    def job(self, text, name="job"):
         output = slice_of(c_uint8, [0] * 2048)
-        length = self.library.reedgosling_job(*lent(slice_of(c_uint8, text)), *lent(output))
+        length = getattr(self.library, "reedgosling_" + name)(*lent(slice_of(c_uint8, text)), *lent(output))
         return bytes(output[:length]).decode()
 
 
@@ -135,6 +150,17 @@ def single_calls(rota, masks, limits):
     for drawn in [2, 2, 0], [0, 2, 2]:
         answer, report = rota.prefix_report(drawn)
         print(f"report of {spelled(drawn)}: answer {answer}, last days to be drawn anew: {report}")
+
+
+def mending(rota, masks, limits):
+    drawn = [2, 2, 0]
+    answer, changes, _ = rota.mend(masks, limits, drawn, 0)
+    print(f"{spelled(drawn)} mended with no change: answer {answer}, changes {changes}")
+    answer, changes, roster = rota.mend(masks, limits, drawn, 7)
+    print(f"{spelled(drawn)} mended with at most 7: answer {answer}, changes {changes}, roster {spelled(roster)}")
+    for claimed in 1, 2:
+        answer, says = rota.check(masks, limits, drawn, roster, claimed)
+        print(f"that roster with {claimed} claimed: answer {answer}, {says}")
 
 
 def session_walk(rota, masks, limits):
@@ -157,11 +183,14 @@ def main(path):
     rota = Rota(path)
     masks, limits = slice_of(c_uint16, [7] * PLACES), slice_of(c_uint32, [366000] * PLACES)
     single_calls(rota, masks, limits)
+    mending(rota, masks, limits)
     session_walk(rota, masks, limits)
     answer, text = rota.write()
     print(f"W written: answer {answer}, {len(text)} bytes, {'the same' if text == SHEET else 'others'} as were read")
     print("job of W, three days, shift 0 alone on day 1:")
     print(rota.job(SHEET + b"\ndays\t3\nkeep\t1\t1\n"), end="")
+    print("2 2 0 mended, no shift 0 on day 1:")
+    print(rota.job(SHEET + b"\ndays\t3\nkeep\t1\t6\ndrawn\t2\t2\t0\nmost\t7\n", "mend_job"), end="")
 
 
 if __name__ == "__main__":

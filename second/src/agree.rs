@@ -1,6 +1,7 @@
 //! The plain ways held against each other: tables, brute force and pairs must agree
 //! wherever they are feasible.
 
+use crate::mend::Drawn;
 use crate::pairs::Pairs;
 use crate::rules::{narrowed, Case, Rules};
 use crate::{report, tables, words};
@@ -35,10 +36,23 @@ pub fn reports_agree(rules: &Rules, roster: &[u8]) -> bool {
         || words::longest_prefix(rules, roster) == report::longest_prefix(rules, roster)
 }
 
+pub fn mends_agree(drawn: &Drawn, most: usize) -> bool {
+    let Drawn { case, roster } = drawn;
+    !words_are_few(case.places(), case.rules)
+        || words::mended(case, roster, most) == drawn.mended(most)
+}
+
+pub fn checks_agree(drawn: &Drawn, roster: &[u8], claimed: u32) -> bool {
+    let Drawn { case, roster: was } = drawn;
+    !words_are_few(case.places(), case.rules)
+        || words::proposal_is_right(case, was, roster, claimed) == drawn.is_right(roster, claimed)
+}
+
 #[cfg(test)]
 mod tests {
     use super::*;
     use crate::cases::{problem, tiny_rules, Problem, Scale};
+    use crate::mend::changes;
     use crate::random::Random;
 
     /// How many of the problems had words few enough, and how many a roster.
@@ -95,6 +109,70 @@ mod tests {
         }
         let met = [accepted, kept_part, none_kept, no_word];
         assert!(met.iter().all(|met| *met > 500), "{met:?}");
+    }
+
+    #[test]
+    fn both_ways_mend_and_check_alike_on_many_small_problems() {
+        let (mut made, mut none, mut yes) = ([0; 8], 0, 0);
+        for case in 0..3_000 {
+            let mut random = Random::for_case(20_261_117, case);
+            let problem = problem(&mut random, Scale::Small);
+            let (places, values) = (problem.places, problem.rules.values);
+            let mut word = || (0..places).map(|_| random.below(values) as u8).collect::<Vec<u8>>();
+            let (roster, other) = (word(), word());
+            let drawn = Drawn { case: problem.case(), roster: &roster };
+            for most in 0..8 {
+                assert!(mends_agree(&drawn, most), "most {most}, {roster:?}, {problem:?}");
+            }
+            let mended = drawn.mended(7);
+            match &mended {
+                Some(mended) => made[changes(&roster, mended)] += 1,
+                None => none += 1,
+            }
+            for proposal in mended.iter().chain([&roster, &other]) {
+                for claimed in 0..8 {
+                    assert!(checks_agree(&drawn, proposal, claimed), "{proposal:?}, {problem:?}");
+                    yes += usize::from(drawn.is_right(proposal, claimed));
+                }
+            }
+        }
+        // No more than six places are small.
+        assert!(made[..6].iter().all(|made| *made > 20), "{made:?}");
+        assert!(none > 300 && yes > 1_500, "{none} {yes}");
+    }
+
+    /// Where the words are many: a proposal is allowed by a filter narrowed to it, and no roster
+    /// with fewer changes is found where all but some places are held to the drawn one.
+    #[test]
+    fn longer_proposals_are_allowed_and_no_fewer_changes_are_found() {
+        let mut mended = 0;
+        for case in 0..400 {
+            let mut random = Random::for_case(20_261_118, case);
+            let problem = problem(&mut random, Scale::Middle);
+            let (places, values) = (problem.places, problem.rules.values);
+            let roster: Vec<u8> = (0..places).map(|_| random.below(values) as u8).collect();
+            let drawn = Drawn { case: problem.case(), roster: &roster };
+            let allowed_with =
+                |masks: &[u16]| tables::filter(&Case { masks, ..problem.case() }).is_some();
+            let found = drawn.mended(places);
+            assert_eq!(found.is_some(), allowed_with(&problem.masks));
+            let Some(found) = found else { continue };
+            mended += 1;
+            let meet = |place: usize, value: u8| problem.masks[place] & 1 << value;
+            let narrow: Vec<u16> = (0..places).map(|place| meet(place, found[place])).collect();
+            assert!(allowed_with(&narrow), "{problem:?}");
+            let made = changes(&roster, &found);
+            for _ in 0..20 {
+                let mut held: Vec<u16> =
+                    (0..places).map(|place| meet(place, roster[place])).collect();
+                for _ in 1..made {
+                    let place = random.below(places);
+                    held[place] = problem.masks[place];
+                }
+                assert!(made == 0 || !allowed_with(&held), "{problem:?}");
+            }
+        }
+        assert!(mended > 100, "{mended}");
     }
 
     #[test]

@@ -11,7 +11,7 @@ const MOST_DAYS: u64 = 128;
 /// "then up to 512 lines".
 const MOST_DECISIONS: usize = 512;
 
-/// Why no filter was made.
+/// Why a program did not come to its work.
 enum Wrong {
     Long,
     Sheet(usize),
@@ -19,20 +19,17 @@ enum Wrong {
 }
 
 /// The masks and limits with all lines taken.
-struct Job {
-    masks: Vec<u16>,
-    limits: Vec<u32>,
+pub struct Job {
+    pub masks: Vec<u16>,
+    pub limits: Vec<u32>,
 }
 
 pub fn run(input: &[u8]) -> Vec<u8> {
-    let text = match filtered(input) {
-        Ok(Some(found)) => print_found(&found),
-        Ok(None) => "none\n".to_owned(),
-        Err(Wrong::Long) => "long\n".to_owned(),
-        Err(Wrong::Sheet(line)) => format!("sheet\t{line}\n"),
-        Err(Wrong::Job(line)) => format!("job\t{line}\n"),
-    };
-    text.into_bytes()
+    print(input, |rules, lines| {
+        let Job { masks, limits } = take_job(rules, lines)?;
+        let found = tables::filter(&Case { rules, masks: &masks, limits: &limits });
+        Ok(found.map(|found| print_found(&found)))
+    })
 }
 
 fn print_found(found: &Found) -> String {
@@ -41,7 +38,26 @@ fn print_found(found: &Found) -> String {
     format!("{kept}least\t{}\n", found.least)
 }
 
-fn filtered(input: &[u8]) -> Result<Option<Found>, Wrong> {
+/// What a program prints for an input. Its work is handed the rules and the lines of the job, and
+/// gives a text, or none where no roster is allowed, or the number of the first wrong line.
+pub fn print(
+    input: &[u8],
+    work: impl FnOnce(&Rules, &[Line]) -> Result<Option<String>, usize>,
+) -> Vec<u8> {
+    let text = match worked(input, work) {
+        Ok(Some(text)) => text,
+        Ok(None) => "none\n".to_owned(),
+        Err(Wrong::Long) => "long\n".to_owned(),
+        Err(Wrong::Sheet(line)) => format!("sheet\t{line}\n"),
+        Err(Wrong::Job(line)) => format!("job\t{line}\n"),
+    };
+    text.into_bytes()
+}
+
+fn worked(
+    input: &[u8],
+    work: impl FnOnce(&Rules, &[Line]) -> Result<Option<String>, usize>,
+) -> Result<Option<String>, Wrong> {
     if input.len() > MOST_INPUT {
         return Err(Wrong::Long);
     }
@@ -49,8 +65,7 @@ fn filtered(input: &[u8]) -> Result<Option<Found>, Wrong> {
     let rules = parse(sheet).map_err(Wrong::Sheet)?;
     // "with none and a right sheet, it prints `job` and 1".
     let job = job.ok_or(Wrong::Job(1))?;
-    let Job { masks, limits } = take_job(&rules, &lines(job)).map_err(Wrong::Job)?;
-    Ok(tables::filter(&Case { rules: &rules, masks: &masks, limits: &limits }))
+    work(&rules, &lines(job)).map_err(Wrong::Job)
 }
 
 /// "The sheet is what stands before the first empty line, or all the input if there is none."
@@ -63,7 +78,7 @@ fn part(input: &[u8]) -> (&[u8], Option<&[u8]>) {
 }
 
 /// The job of all lines, or the first wrong one, from 1.
-fn take_job(rules: &Rules, lines: &[Line]) -> Result<Job, usize> {
+pub fn take_job(rules: &Rules, lines: &[Line]) -> Result<Job, usize> {
     // "a missing line counts as wrong".
     let first = lines.first().filter(|line| line.ended).ok_or(1_usize)?;
     let days = days_line(first.text).ok_or(1_usize)?;

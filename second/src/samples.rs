@@ -109,3 +109,61 @@ pub const WRONG_JOB_LINES: &[&str] = &[
     "days\t3\n",
     "keep\t0\t1\r\n",
 ];
+
+/// Mending jobs on W.
+pub const RIGHT_MENDS: &[&str] = &[
+    "days\t3\ndrawn\t2\t2\t0\nmost\t7\n",
+    "days\t3\ndrawn\t2\t2\t0\nmost\t0\n",
+    "days\t3\nkeep\t1\t6\nlimit\t2\t2\ndrawn\t2\t2\t0\nmost\t1\n",
+    "days\t3\nlimit\t0\t0\ndrawn\t1\t2\t2\nmost\t2\n",
+    "days\t1\ndrawn\t0\nmost\t1\n",
+    "days\t3\nkeep\t0\t0\ndrawn\t1\t2\t2\nmost\t7\n",
+];
+
+/// Lines that are wrong where `drawn` is to come, with `days` 3 on W.
+pub const WRONG_DRAWN_LINES: &[&str] = &[
+    "drawn\n",
+    "drawn\t\n",
+    "drawn\t2\t2\n",
+    "drawn\t2\t2\t0\t0\n",
+    "drawn\t2\t2\t0\t\n",
+    "drawn\t2\t2\t\n",
+    "drawn\t\t2\t2\n",
+    "drawn\t2\t2\t3\n",
+    "drawn\t3\t2\t0\n",
+    "drawn\t2\t2\t256\n",
+    "drawn\t2\t02\t0\n",
+    "drawn\t2\t-2\t0\n",
+    "drawn\t2\t2\t0",
+    "drawn\t2\t2\t0\r\n",
+    "drawn 2 2 0\n",
+    "Drawn\t2\t2\t0\n",
+    "drawns\t2\t2\t0\n",
+    "drawn\t2\t2\t18446744073709551616\n",
+    "most\t7\n",
+    "\n",
+];
+
+/// Lines that are wrong where `most` is to come.
+pub const WRONG_MOST_LINES: &[&str] = &[
+    "most\t8\n",
+    "most\t9\n",
+    "most\t10\n",
+    "most\t256\n",
+    "most\t4294967296\n",
+    "most\t18446744073709551616\n",
+    "most\t07\n",
+    "most\t+7\n",
+    "most\t\n",
+    "most\n",
+    "most\t7",
+    "most\t7\t\n",
+    "most\t7\t7\n",
+    "most\t7\r\n",
+    "most 7\n",
+    "Most\t7\n",
+    "mosts\t7\n",
+    "drawn\t2\t2\t0\n",
+    "keep\t0\t7\n",
+    "\n",
+];

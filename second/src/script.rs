@@ -14,8 +14,8 @@ mod lines;
 pub use call::{Call, CameTo};
 pub use lent::{Lent, Slice};
 
-use crate::agree::{filters_agree, first_rosters_agree, reports_agree};
-use crate::{report, sheet};
+use crate::agree::{checks_agree, filters_agree, first_rosters_agree, mends_agree, reports_agree};
+use crate::{mend, report, sheet};
 use bench::Bench;
 
 /// "A script has at most 2,097,152 bytes."
@@ -138,7 +138,15 @@ fn ways_agree(lent: &Lent, call: Call) -> bool {
             let Lent { places, rules, roster, .. } = lent;
             !report::is_right(*places, rules, roster) || reports_agree(rules, roster)
         }
-        Call::Read | Call::Ask(_) | Call::Job => true,
+        Call::Mend { most } => {
+            let meant = most <= mend::MOST_CHANGES && lent.values_right(&lent.drawn);
+            !(lent.is_right() && meant) || mends_agree(&lent.drawn(), most as usize)
+        }
+        Call::Check { claimed } => {
+            let meant = lent.values_right(&lent.drawn) && lent.values_right(&lent.roster);
+            !(lent.is_right() && meant) || checks_agree(&lent.drawn(), &lent.roster, claimed)
+        }
+        Call::Read | Call::Ask(_) | Call::Job | Call::MendJob => true,
     }
 }
 

@@ -7,6 +7,8 @@ mod histories;
 mod jobs;
 mod lists;
 mod memory;
+mod mendjobs;
+mod mends;
 mod order;
 mod problems;
 mod reports;
@@ -40,6 +42,15 @@ const FIXED: &[fn(&mut Script)] = &[
     shuffles::walk,
     reports::on_w,
     reports::nothing_accepted,
+    mends::on_w,
+    mends::claims,
+    mends::lines,
+    mends::faults,
+    mends::short_tables,
+    mends::sizes,
+    mends::limits,
+    mendjobs::samples,
+    mendjobs::long,
 ];
 
 /// What makes the calls of a random case.
@@ -48,7 +59,9 @@ type RandomCase = fn(&mut Random, &mut Script);
 /// How many of a hundred random cases are of each kind, and its name. One of a problem or text
 /// makes some calls, a session's history up to some two hundred.
 const RANDOM: &[(usize, &str, RandomCase)] = &[
-    (57, "problems", problems::case),
+    (51, "problems", problems::case),
+    (4, "mends", mends::case),
+    (2, "mendjobs", mendjobs::case),
     (3, "reports", reports::case),
     (18, "sheets", sheets::case),
     (15, "jobs", jobs::case),

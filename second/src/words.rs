@@ -75,6 +75,24 @@ pub fn first_roster(case: &Case, place: usize, value: u8) -> Option<Vec<u8>> {
     rosters.find(|word| word[place] == value)
 }
 
+/// Of the allowed rosters the first of those with the fewest changes, "at most k".
+pub fn mended(case: &Case, drawn: &[u8], most: usize) -> Option<Vec<u8>> {
+    let rosters: Vec<Vec<u8>> = allowed(case).into_iter().map(|(word, _)| word).collect();
+    let fewest = rosters.iter().map(|word| changed(drawn, word)).min()?;
+    rosters.into_iter().find(|word| changed(drawn, word) == fewest && fewest <= most)
+}
+
+/// Whether a roster is one of those allowed, and the claimed number of its changes is right.
+pub fn proposal_is_right(case: &Case, drawn: &[u8], roster: &[u8], claimed: u32) -> bool {
+    let is_allowed = allowed(case).iter().any(|(word, _)| word == roster);
+    is_allowed && u32::try_from(changed(drawn, roster)) == Ok(claimed)
+}
+
+/// How many places have another value than the drawn one.
+fn changed(drawn: &[u8], word: &[u8]) -> usize {
+    (0..word.len()).map(|place| usize::from(word[place] != drawn[place])).sum()
+}
+
 /// The length of "the longest prefix that can be extended to an accepted word of full length":
 /// of all accepted words the one that agrees with the roster for longest.
 pub fn longest_prefix(rules: &Rules, roster: &[u8]) -> Option<usize> {
@@ -93,6 +111,7 @@ mod tests {
     use super::*;
     use crate::rules::MOST_LIMIT;
     use crate::worked::{check_drawn_cases, check_first_cases, check_kept_cases, w};
+    use crate::worked::{Mended, MENDED_CASES};
 
     #[test]
     fn words_come_in_the_papers_order() {
@@ -118,6 +137,20 @@ mod tests {
     #[test]
     fn rosters_drawn_on_w() {
         check_drawn_cases(longest_prefix);
+    }
+
+    #[test]
+    fn rosters_mended_on_w() {
+        let rules = w();
+        for Mended { drawn, most, masks, limits, found } in MENDED_CASES {
+            let case = Case { rules: &rules, masks, limits };
+            let roster = mended(&case, drawn, *most as usize);
+            assert_eq!(roster, found.map(|(_, roster)| roster.to_vec()), "{drawn:?}");
+            if let Some((made, roster)) = found {
+                assert!(proposal_is_right(&case, drawn, roster, *made));
+                assert!(!proposal_is_right(&case, drawn, roster, *made + 1));
+            }
+        }
     }
 
     #[test]

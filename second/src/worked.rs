@@ -126,6 +126,46 @@ pub const DRAWN_CASES: &[(&[u8], usize)] = &[
     (&[2, 2, 1], 0),
 ];
 
+/// A roster drawn on W, and what comes of mending it.
+pub struct Mended {
+    pub drawn: &'static [u8],
+    pub most: u32,
+    pub masks: &'static [u16],
+    pub limits: &'static [u32],
+    /// The number of changes and the roster, if there is one.
+    pub found: Option<(u32, [u8; 3])>,
+}
+
+const fn mended(
+    drawn: &'static [u8],
+    most: u32,
+    masks: &'static [u16],
+    limits: &'static [u32],
+    found: Option<(u32, [u8; 3])>,
+) -> Mended {
+    Mended { drawn, most, masks, limits, found }
+}
+
+/// Worked by hand from the eight accepted rosters of length 3 (ddx, eex, exe, exx, xdd, xee, xex, xxe):
+/// xxd is one change from xdd and from xxe; with x alone at the first place, or only those who spend
+/// nothing there, eee is one change from xee; limits of 0, 0 and 1 leave no roster (K7).
+pub const MENDED_CASES: &[Mended] = &[
+    mended(&[2, 2, 0], 7, &[7; 3], &[N; 3], Some((1, [2, 0, 0]))),
+    mended(&[2, 2, 0], 1, &[7; 3], &[N; 3], Some((1, [2, 0, 0]))),
+    mended(&[2, 2, 0], 0, &[7; 3], &[N; 3], None),
+    mended(&[2, 2, 0], 7, &[7, 6, 7], &[N; 3], Some((1, [2, 2, 1]))),
+    mended(&[1, 2, 2], 0, &[7; 3], &[N; 3], Some((0, [1, 2, 2]))),
+    mended(&[1, 2, 2], 7, &[6; 3], &[0, N, N], Some((2, [2, 1, 2]))),
+    mended(&[1, 2, 2], 1, &[6; 3], &[0, N, N], None),
+    mended(&[0, 0, 0], 7, &[7; 3], &[N; 3], Some((1, [0, 0, 2]))),
+    mended(&[1, 1, 1], 7, &[7; 3], &[N; 3], Some((1, [1, 1, 2]))),
+    mended(&[1, 1, 1], 7, &[7; 3], &[0, N, N], Some((1, [2, 1, 1]))),
+    mended(&[0, 0, 1], 7, &[4, 7, 7], &[N; 3], Some((2, [2, 0, 0]))),
+    mended(&[0, 0, 0], 3, &[6; 3], &[N; 3], Some((3, [1, 1, 2]))),
+    mended(&[0, 0, 0], 2, &[6; 3], &[N; 3], None),
+    mended(&[1, 1, 1], 7, &[7; 3], &[0, 0, 1], None),
+];
+
 /// Holds a filter against K1 to K10.
 #[cfg(test)]
 pub fn check_kept_cases(filter: impl Fn(&Case) -> Option<Found>) {

@@ -3,6 +3,7 @@ use crate::cells;
 use crate::cells::entry;
 use crate::cells::take_8;
 use crate::cells::take_16;
+use crate::mend_calls;
 use crate::plan_calls;
 use crate::script;
 use crate::session_calls;
@@ -43,6 +44,9 @@ fn make_with_tables(word: usize, line: &[u8], memory: &mut [u64]) {
         script::FILTER | script::FIRST | script::REPORT => {
             plan_calls::carry_out(word, line, memory, targets, costs)
         }
+        script::MEND | script::CHECK => {
+            mend_calls::carry_out(word, line, memory, targets, costs)
+        }
         _ => session_calls::carry_out(word, line, memory, targets, costs),
     }
 }
@@ -50,7 +54,9 @@ fn make_with_tables(word: usize, line: &[u8], memory: &mut [u64]) {
 // Makes the call that a line asks for, whichever group it is of.
 fn make(word: usize, line: &[u8], memory: &mut [u64]) {
     match word {
-        script::READ | script::WRITE | script::JOB => sheet_calls::carry_out(word, memory),
+        script::READ | script::WRITE | script::JOB | script::MEND_JOB => {
+            sheet_calls::carry_out(word, memory)
+        }
         _ => make_with_tables(word, line, memory),
     }
 }

@@ -1,4 +1,4 @@
-// The memory that a script works on: five numbers, the slices' lengths, and the ten slices, one behind the other. Numbers and lengths are
+// The memory that a script works on: five numbers, the slices' lengths, and the twelve slices, one behind the other. Numbers and lengths are
 // slices too, which no line names, so that all are read and set alike.
 ghost use Prim.Native.Nat.{_≤_};
 use crate::script::number_at;
@@ -23,16 +23,20 @@ pub(crate) const INPUT: usize = 8;
 
 pub(crate) const OUTPUT: usize = 9;
 
+pub(crate) const DRAWN: usize = 10;
+
+pub(crate) const PLAN: usize = 11;
+
 // As many slices as a line can name.
-pub(crate) const SLICES: usize = 10;
+pub(crate) const SLICES: usize = 12;
 
 // The five numbers n, Q, V, start and accepting, and the length of each slice that a line can name.
-pub(crate) const NUMBERS: usize = 10;
+pub(crate) const NUMBERS: usize = 12;
 
-pub(crate) const LENGTHS: usize = 11;
+pub(crate) const LENGTHS: usize = 13;
 
 // No slice: it has no room.
-pub(crate) const NO_SLICE: usize = 12;
+pub(crate) const NO_SLICE: usize = 14;
 
 // Room for the numbers, for a rule table, for the numbers of the places, and for the rest.
 const NUMBERS_ROOM: usize = 5;
@@ -48,6 +52,8 @@ pub(crate) const SESSION_ROOM: usize = 3000;
 pub(crate) const INPUT_ROOM: usize = 33000;
 
 pub(crate) const OUTPUT_ROOM: usize = 20000;
+
+pub(crate) const PLAN_ROOM: usize = 190000;
 
 // Where each slice begins: behind the one before it.
 const NUMBERS_AT: usize = 0;
@@ -74,18 +80,23 @@ const INPUT_AT: usize = SESSION_AT + SESSION_ROOM;
 
 const OUTPUT_AT: usize = INPUT_AT + INPUT_ROOM;
 
+const DRAWN_AT: usize = OUTPUT_AT + OUTPUT_ROOM;
+
+const PLAN_AT: usize = DRAWN_AT + PLACES_ROOM;
+
 // As many cells as all have room for.
-pub(crate) const CELLS: usize = OUTPUT_AT + OUTPUT_ROOM;
+pub(crate) const CELLS: usize = PLAN_AT + PLAN_ROOM;
 
 // As many entries as a slice has room for.
 fn room_of(slice: usize) -> usize {
     match slice {
         TARGETS | COSTS => TABLE_ROOM,
-        MASKS | LIMITS | KEPT | ROSTER => PLACES_ROOM,
+        MASKS | LIMITS | KEPT | ROSTER | DRAWN => PLACES_ROOM,
         WORK => WORK_ROOM,
         SESSION => SESSION_ROOM,
         INPUT => INPUT_ROOM,
         OUTPUT => OUTPUT_ROOM,
+        PLAN => PLAN_ROOM,
         NUMBERS => NUMBERS_ROOM,
         LENGTHS => SLICES,
         _ => 0,
@@ -105,6 +116,8 @@ fn base_of(slice: usize) -> usize {
         SESSION => SESSION_AT,
         INPUT => INPUT_AT,
         OUTPUT => OUTPUT_AT,
+        DRAWN => DRAWN_AT,
+        PLAN => PLAN_AT,
         LENGTHS => LENGTHS_AT,
         _ => NUMBERS_AT,
     }
@@ -128,9 +141,9 @@ pub(crate) fn entry(memory: &[u64], slice: usize, place: usize) -> u64 {
 // A number, cut to the width of a slice's entries.
 fn cut(slice: usize, number: u64) -> u64 {
     match slice {
-        TARGETS | ROSTER | INPUT | OUTPUT => number % 256,
+        TARGETS | ROSTER | INPUT | OUTPUT | DRAWN => number % 256,
         COSTS | MASKS | KEPT => number % 65536,
-        LIMITS | WORK | SESSION => number % 4294967296,
+        LIMITS | WORK | SESSION | PLAN => number % 4294967296,
         _ => number,
     }
 }

@@ -6,6 +6,7 @@ ghost use lib.ListN.{length};
 
 mod call;
 mod cells;
+mod mend_calls;
 mod plan_calls;
 mod script;
 mod session_calls;

@@ -24,21 +24,27 @@ pub(crate) const FIRST: usize = 8;
 
 pub(crate) const REPORT: usize = 9;
 
-pub(crate) const READ: usize = 10;
+pub(crate) const MEND: usize = 10;
 
-pub(crate) const WRITE: usize = 11;
+pub(crate) const CHECK: usize = 11;
 
-pub(crate) const JOB: usize = 12;
+pub(crate) const READ: usize = 12;
 
-pub(crate) const OPEN: usize = 13;
+pub(crate) const WRITE: usize = 13;
 
-pub(crate) const KEEP: usize = 14;
+pub(crate) const JOB: usize = 14;
 
-pub(crate) const LIMIT: usize = 15;
+pub(crate) const MEND_JOB: usize = 15;
 
-pub(crate) const MARK: usize = 16;
+pub(crate) const OPEN: usize = 16;
 
-pub(crate) const BACK: usize = 17;
+pub(crate) const KEEP: usize = 17;
+
+pub(crate) const LIMIT: usize = 18;
+
+pub(crate) const MARK: usize = 19;
+
+pub(crate) const BACK: usize = 20;
 
 pub(crate) const UNKNOWN: usize = BACK + 1;
 
@@ -146,7 +152,7 @@ fn word_among(line: &[u8], words: &[u8]) -> usize {
 pub(crate) fn word_of(line: &[u8]) -> usize {
     word_among(
         line,
-        b"#size\tlength\tput\tfill\tshow\tbytes\tfilter\nfirst\treport\nread\nwrite\njob\nopen\nkeep\tlimit\tmark\nback\n",
+        b"#size\tlength\tput\tfill\tshow\tbytes\tfilter\nfirst\treport\nmend\tcheck\tread\nwrite\njob\nmendjob\nopen\nkeep\tlimit\tmark\nback\n",
     )
 }
 
@@ -170,6 +176,8 @@ pub(crate) fn slice_at(line: &[u8], at: usize) -> usize {
         b's' => cells::SESSION,
         b'i' => cells::INPUT,
         b'o' => cells::OUTPUT,
+        b'd' => cells::DRAWN,
+        b'p' => cells::PLAN,
         _ => cells::NO_SLICE,
     }
 }

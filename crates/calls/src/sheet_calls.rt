@@ -1,4 +1,4 @@
-// The calls that work on text: a sheet read, a sheet written, and the program's job. Each prints its answer and the numbers that it carries.
+// The calls that work on text: a sheet read, a sheet written, and the programs' jobs. Each prints its answer and the numbers that it carries.
 use crate::call::Numbers;
 use crate::call::numbers_of;
 use crate::cells;
@@ -42,7 +42,8 @@ fn make(
     match word {
         script::READ => read(input, targets, costs),
         script::WRITE => write(numbers, targets, costs, output),
-        _ => tell_number(job::job(input, output) as u64),
+        script::JOB => tell_number(job::job(input, output) as u64),
+        _ => tell_number(job::mend_job(input, output) as u64),
     }
 }
 

@@ -45,7 +45,7 @@ pub(crate) fn tell_field(line: &[u8], number: usize) {
 // The name of a slice, after a tab.
 fn tell_name(slice: usize) {
     tell_field(
-        b"\ttargets\tcosts\tmasks\tlimits\tkept\troster\twork\tsession\tinput\toutput",
+        b"\ttargets\tcosts\tmasks\tlimits\tkept\troster\twork\tsession\tinput\toutput\tdrawn\tplan",
         slice,
     );
 }

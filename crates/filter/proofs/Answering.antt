@@ -1,4 +1,4 @@
--- The checks 1 to 4 of a call, each return of the code against the one equation, for any result.
+-- The returns of the filter and of the first roster against their equations.
 use mathlib.Core.Path.{_≡_, sym, ap, _∙_}
 use mathlib.Core.Bool.{Bool, true, false, _&&_}
 use mathlib.Core.List.{List, [], _∷_}
@@ -10,9 +10,10 @@ use borrow.Author.Tests.{eqb-true, ltb-true}
 use Rattle.meaning.specs.Meaning.{Rules, rulesOf, Verdict, verdictOf, Place, places, rosters, first}
 use Rattle.meaning.specs.Bounds.{workSize, top}
 use Rattle.rules.specs.Checks.{handed, sizesRight, tablesLong, tablesRight, rulesRight, masksRight}
-use Rattle.rules.specs.Answers.{Check, check, decided, zeros, workAfter}
-use Rattle.rules.proofs.Checks.{both, and-fails, and-goes, size-of, sizes-of, long-tables, rules-tables, refuses, passes, is-done}
-use Rattle.filter.specs.Filter.{left, lengthsRight, passChecks, filterDone, filterOf}
+use Rattle.rules.specs.Answers.{Check, check, zeros, workAfter}
+use Rattle.rules.proofs.Checks.{both, size-of, sizes-of, long-tables, refuses, passes, is-done}
+use Rattle.rules.proofs.Refusals.{wrong-size, wrong-tables-long, wrong-lengths, wrong-tables, wrong-mask, all-right}
+use Rattle.filter.specs.Filter.{left, lengthsRight, filterDone, filterOf}
 use Rattle.filter.specs.First.{Given, given, firstDone, firstOf}
 use Rattle.rooms.specs.Tables.{Sizes}
 use Rattle.reach.specs.Whole.{Filters, Finds, FilterRuns, FirstRuns}
@@ -32,39 +33,6 @@ lengths-of n ms ls out work h =
     let b = both (eqb ls n) _ (a .1) in
     let c = both (eqb out n) _ (b .1) in
     record { of-masks = eqb-true _ _ (a .0); of-limits = eqb-true _ _ (b .0); of-out = eqb-true _ _ (c .0); of-work = eqb-true _ _ (c .1) }
-
-module _ {A : Type 0} (refuse : ℕ → A) (done : A) (n q v s : ℕ) (t c : List ℕ) (a : ℕ) (ms ls : List ℕ) (out work : ℕ) (rest : List Check) where
-  abbrev checks : List Check
-  checks = passChecks (handed n q v s t c a) ms ls out work rest
-
-  pub wrong-size : sizesRight n q v s ≡ false → refuse 1 ≡ decided checks refuse done
-  wrong-size e = refuses refuse done _ _ _ e
-
-  module _ (sizes : sizesRight n q v s ≡ true) where
-    pub wrong-tables-long : tablesLong t c ≡ false → refuse 2 ≡ decided checks refuse done
-    wrong-tables-long e = passes refuse done _ _ _ sizes (refuses refuse done _ _ _ (and-fails _ _ e))
-
-    module _ (long : tablesLong t c ≡ true) where
-      pub wrong-lengths : lengthsRight n (length ms) (length ls) out work ≡ false → refuse 2 ≡ decided checks refuse done
-      wrong-lengths e = passes refuse done _ _ _ sizes (refuses refuse done _ _ _ (and-goes _ _ _ long e))
-
-      module _ (lengths : lengthsRight n (length ms) (length ls) out work ≡ true) where
-        tables : rulesRight q v s t c a ≡ tablesRight q v t c a
-        tables = rules-tables q v s t c a (sizes-of n q v s sizes .size) long
-
-        pub wrong-tables : rulesRight q v s t c a ≡ false → refuse 3 ≡ decided checks refuse done
-        wrong-tables e = passes refuse done _ _ _ sizes (passes refuse done _ _ _ (and-goes _ _ _ long lengths) (refuses refuse done _ _ _ (sym tables ∙ e)))
-
-        module _ (rules : rulesRight q v s t c a ≡ true) where
-          pub wrong-mask : masksRight v ms ≡ false → refuse 4 ≡ decided checks refuse done
-          wrong-mask e =
-              passes refuse done _ _ _ sizes (passes refuse done _ _ _ (and-goes _ _ _ long lengths)
-              (passes refuse done _ _ _ (sym tables ∙ rules) (refuses refuse done _ _ _ e)))
-
-          pub all-right : {x : A} → masksRight v ms ≡ true → x ≡ decided rest refuse done → x ≡ decided checks refuse done
-          all-right e k =
-              passes refuse done _ _ _ sizes (passes refuse done _ _ _ (and-goes _ _ _ long lengths)
-              (passes refuse done _ _ _ (sym tables ∙ rules) (passes refuse done _ _ _ e k)))
 
 -- what passed the checks is ready for the passes
 module _ (n q v s : ℕ) (t c ms ls work : List ℕ) (out : ℕ) (sizes : sizesRight n q v s ≡ true) (long : tablesLong t c ≡ true)
@@ -114,38 +82,38 @@ filter-done {was = was} f (none h) = rw (f .cleared) (ap (λ (y : Verdict). left
 module _ (n q v s a : ℕ) (t c ms ls ks work : List ℕ) {x y : ℕ} where
   pub filter-size : x ≡ 1 → y ≡ 0 → sizesRight n q v s ≡ false → left x y ks work ≡ filterOf (handed n q v s t c a) ms ls ks work
   unfolding filterOf
-  filter-size d e f = rw (d, e) (wrong-size (λ n. left n 0 ks (workAfter n work)) (filterDone (verdictOf (rulesOf q v t c a) s 0 (places ms ls)) work) n q v s t c a ms ls (length ks) (length work) [] f)
+  filter-size d e f = rw (d, e) (wrong-size (λ n. left n 0 ks (workAfter n work)) (filterDone (verdictOf (rulesOf q v t c a) s 0 (places ms ls)) work) n q v s t c a ms (lengthsRight n (length ms) (length ls) (length ks) (length work)) [] f)
 
   module _ (sizes : sizesRight n q v s ≡ true) where
     pub filter-tables-long : x ≡ 2 → y ≡ 0 → tablesLong t c ≡ false → left x y ks work ≡ filterOf (handed n q v s t c a) ms ls ks work
     unfolding filterOf
     filter-tables-long d e f =
-        rw (d, e) (wrong-tables-long (λ n. left n 0 ks (workAfter n work)) (filterDone (verdictOf (rulesOf q v t c a) s 0 (places ms ls)) work) n q v s t c a ms ls (length ks) (length work) [] sizes f)
+        rw (d, e) (wrong-tables-long (λ n. left n 0 ks (workAfter n work)) (filterDone (verdictOf (rulesOf q v t c a) s 0 (places ms ls)) work) n q v s t c a ms (lengthsRight n (length ms) (length ls) (length ks) (length work)) [] sizes f)
 
     module _ (long : tablesLong t c ≡ true) where
       pub filter-lengths : x ≡ 2 → y ≡ 0 → lengthsRight n (length ms) (length ls) (length ks) (length work) ≡ false
           → left x y ks work ≡ filterOf (handed n q v s t c a) ms ls ks work
       unfolding filterOf
       filter-lengths d e f =
-          rw (d, e) (wrong-lengths (λ n. left n 0 ks (workAfter n work)) (filterDone (verdictOf (rulesOf q v t c a) s 0 (places ms ls)) work) n q v s t c a ms ls (length ks) (length work) [] sizes long f)
+          rw (d, e) (wrong-lengths (λ n. left n 0 ks (workAfter n work)) (filterDone (verdictOf (rulesOf q v t c a) s 0 (places ms ls)) work) n q v s t c a ms (lengthsRight n (length ms) (length ls) (length ks) (length work)) [] sizes long f)
 
       module _ (lengths : lengthsRight n (length ms) (length ls) (length ks) (length work) ≡ true) {is : List ℕ} where
         pub filter-tables : x ≡ 3 → y ≡ 0 → is ≡ zeros work → rulesRight q v s t c a ≡ false → left x y ks is ≡ filterOf (handed n q v s t c a) ms ls ks work
         unfolding filterOf
         filter-tables d e k f =
-            rw (d, e, k) (wrong-tables (λ n. left n 0 ks (workAfter n work)) (filterDone (verdictOf (rulesOf q v t c a) s 0 (places ms ls)) work) n q v s t c a ms ls (length ks) (length work) [] sizes long lengths f)
+            rw (d, e, k) (wrong-tables (λ n. left n 0 ks (workAfter n work)) (filterDone (verdictOf (rulesOf q v t c a) s 0 (places ms ls)) work) n q v s t c a ms (lengthsRight n (length ms) (length ls) (length ks) (length work)) [] sizes long lengths f)
 
         module _ (rules : rulesRight q v s t c a ≡ true) where
           pub filter-mask : x ≡ 4 → y ≡ 0 → is ≡ zeros work → masksRight v ms ≡ false → left x y ks is ≡ filterOf (handed n q v s t c a) ms ls ks work
           unfolding filterOf
           filter-mask d e k f =
-              rw (d, e, k) (wrong-mask (λ n. left n 0 ks (workAfter n work)) (filterDone (verdictOf (rulesOf q v t c a) s 0 (places ms ls)) work) n q v s t c a ms ls (length ks) (length work) [] sizes long lengths rules f)
+              rw (d, e, k) (wrong-mask (λ n. left n 0 ks (workAfter n work)) (filterDone (verdictOf (rulesOf q v t c a) s 0 (places ms ls)) work) n q v s t c a ms (lengthsRight n (length ms) (length ls) (length ks) (length work)) [] sizes long lengths rules f)
 
           pub filter-tells : {out : List ℕ} {least : ℕ} → masksRight v ms ≡ true → FilterRuns q v t c a s 0 ms ls ks work out is least → Answered least x y
               → left x y out is ≡ filterOf (handed n q v s t c a) ms ls ks work
           unfolding filterOf
           filter-tells f k w =
-              all-right (λ n. left n 0 ks (workAfter n work)) (filterDone (verdictOf (rulesOf q v t c a) s 0 (places ms ls)) work) n q v s t c a ms ls (length ks) (length work) [] sizes long lengths rules f
+              all-right (λ n. left n 0 ks (workAfter n work)) (filterDone (verdictOf (rulesOf q v t c a) s 0 (places ms ls)) work) n q v s t c a ms (lengthsRight n (length ms) (length ls) (length ks) (length work)) [] sizes long lengths rules f
               (filter-done (k .right (ready n q v s t c ms ls work (length ks) sizes long lengths) (start-state n q v s t c ms ls work (length ks) sizes long lengths) (omega arith)
               (out-long n q v s t c ms ls work (length ks) sizes long lengths)) w ∙ is-done _ _)
 
@@ -162,34 +130,34 @@ module _ (n q v s a : ℕ) (t c ms ls : List ℕ) (i u : ℕ) (roster work : Lis
 
   pub first-size : sizesRight n q v s ≡ false → given 1 roster work ≡ firstOf (handed n q v s t c a) ms ls i u roster work
   unfolding firstOf refuse finish rest
-  first-size f = wrong-size refuse finish n q v s t c a ms ls (length roster) (length work) rest f
+  first-size f = wrong-size refuse finish n q v s t c a ms (lengthsRight n (length ms) (length ls) (length roster) (length work)) rest f
 
   module _ (sizes : sizesRight n q v s ≡ true) where
     pub first-tables-long : tablesLong t c ≡ false → given 2 roster work ≡ firstOf (handed n q v s t c a) ms ls i u roster work
     unfolding firstOf refuse finish rest
-    first-tables-long f = wrong-tables-long refuse finish n q v s t c a ms ls (length roster) (length work) rest sizes f
+    first-tables-long f = wrong-tables-long refuse finish n q v s t c a ms (lengthsRight n (length ms) (length ls) (length roster) (length work)) rest sizes f
 
     module _ (long : tablesLong t c ≡ true) where
       pub first-lengths : lengthsRight n (length ms) (length ls) (length roster) (length work) ≡ false
           → given 2 roster work ≡ firstOf (handed n q v s t c a) ms ls i u roster work
       unfolding firstOf refuse finish rest
-      first-lengths f = wrong-lengths refuse finish n q v s t c a ms ls (length roster) (length work) rest sizes long f
+      first-lengths f = wrong-lengths refuse finish n q v s t c a ms (lengthsRight n (length ms) (length ls) (length roster) (length work)) rest sizes long f
 
       module _ (lengths : lengthsRight n (length ms) (length ls) (length roster) (length work) ≡ true) {is : List ℕ} where
         pub first-tables : is ≡ zeros work → rulesRight q v s t c a ≡ false → given 3 roster is ≡ firstOf (handed n q v s t c a) ms ls i u roster work
         unfolding firstOf refuse finish rest
-        first-tables k f = rw k (wrong-tables refuse finish n q v s t c a ms ls (length roster) (length work) rest sizes long lengths f)
+        first-tables k f = rw k (wrong-tables refuse finish n q v s t c a ms (lengthsRight n (length ms) (length ls) (length roster) (length work)) rest sizes long lengths f)
 
         module _ (rules : rulesRight q v s t c a ≡ true) where
           pub first-mask : is ≡ zeros work → masksRight v ms ≡ false → given 4 roster is ≡ firstOf (handed n q v s t c a) ms ls i u roster work
           unfolding firstOf refuse finish rest
-          first-mask k f = rw k (wrong-mask refuse finish n q v s t c a ms ls (length roster) (length work) rest sizes long lengths rules f)
+          first-mask k f = rw k (wrong-mask refuse finish n q v s t c a ms (lengthsRight n (length ms) (length ls) (length roster) (length work)) rest sizes long lengths rules f)
 
           module _ (masks : masksRight v ms ≡ true) where
             pub first-range : is ≡ zeros work → (ltb i n && ltb u v) ≡ false → given 7 roster is ≡ firstOf (handed n q v s t c a) ms ls i u roster work
             unfolding firstOf refuse finish rest
             first-range k f =
-                rw k (all-right refuse finish n q v s t c a ms ls (length roster) (length work) rest sizes long lengths rules masks (refuses refuse finish _ _ _ f))
+                rw k (all-right refuse finish n q v s t c a ms (lengthsRight n (length ms) (length ls) (length roster) (length work)) rest sizes long lengths rules masks (refuses refuse finish _ _ _ f))
 
             module _ (range : (ltb i n && ltb u v) ≡ true) {out : List ℕ} {found : Bool}
                 (runs : FirstRuns q v t c a s 0 ms ls i u roster work out is found) where
@@ -201,11 +169,11 @@ module _ (n q v s a : ℕ) (t c ms ls : List ℕ) (i u : ℕ) (roster work : Lis
               pub first-missing : found ≡ false → given 11 out is ≡ firstOf (handed n q v s t c a) ms ls i u roster work
               unfolding firstOf firstDone refuse finish rest
               first-missing f =
-                  all-right refuse finish n q v s t c a ms ls (length roster) (length work) rest sizes long lengths rules masks
+                  all-right refuse finish n q v s t c a ms (lengthsRight n (length ms) (length ls) (length roster) (length work)) rest sizes long lengths rules masks
                   (passes refuse finish _ _ _ range (rw (finds .none f .0, finds .none f .1, finds .clear) (is-done _ _)))
 
               pub first-found : found ≡ true → given 0 out is ≡ firstOf (handed n q v s t c a) ms ls i u roster work
               unfolding firstOf firstDone refuse finish rest
               first-found f =
-                  all-right refuse finish n q v s t c a ms ls (length roster) (length work) rest sizes long lengths rules masks
+                  all-right refuse finish n q v s t c a ms (lengthsRight n (length ms) (length ls) (length roster) (length work)) rest sizes long lengths rules masks
                   (passes refuse finish _ _ _ range (rw (finds .some f, finds .clear) (is-done _ _)))

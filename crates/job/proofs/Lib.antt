@@ -5,5 +5,11 @@ pub mod Printing
 pub mod Showing
 pub mod Planning
 pub mod Reading
+pub mod Seeking
+pub mod Drawing
+pub mod Wishing
+pub mod Telling
+pub mod Proposing
 pub mod Unique
 pub mod Shortness
+pub mod MendShort

@@ -2,7 +2,7 @@
 use mathlib.Core.Path.{_≡_, refl, ap, sym, _∙_, subst}
 use mathlib.Core.Bool.{true}
 use mathlib.Core.List.{List, [], _∷_}
-use Prim.Native.Nat.{ℕ, zero, suc, _-_, _^_, _≤_}
+use Prim.Native.Nat.{ℕ, zero, suc, _+_, _-_, _^_, _≤_}
 use native.Mathlib.Omega.{arith}
 use lib.ListN.{length, take, drop, replicate, length-replicate}
 use lib.Pow.{pow-pos}
@@ -18,12 +18,14 @@ use Rattle.text.specs.declared.lines.Fault.the-variants.{Form}
 use Rattle.text.proofs.Decimals.{number-read}
 use Rattle.text.proofs.Judging.{onStrip-right, onField-right, close-right}
 use Rattle.text.specs.declared.lines.Fault.{Fault}
-use Rattle.job.specs.Input.{mostDays, mostLines, daysWord, readDays, days, wrongLine, readDecisions, readJob}
+use Rattle.job.specs.Input.{mostDays, mostLines, daysWord, readDays, days, wrongLine, readDecisions}
 use Rattle.job.specs.Output.{jobLine, verdictText}
-use Rattle.job.specs.Job.{doneText}
-use Rattle.job.specs.Inner.{daysView, Took}
-use Rattle.job.specs.declared.asks.Days.{Days}
-use Rattle.job.specs.declared.asks.Days.the-variants as the-days
+use Rattle.job.specs.Job.{asked, daysDone, doneText, rota}
+use Rattle.job.specs.Mend.{beforeDrawn, fromDrawn, readWish, wishText, mendText, mend}
+use Rattle.job.specs.Inner.{countView, readCount, Took, program}
+use Rattle.job.specs.declared.asks.Count.{Count}
+use Rattle.job.specs.declared.asks.Count.the-variants as the-count
+use Rattle.job.specs.declared.plan.Task.{Task}
 use Rattle.job.specs.declared.take.Taken.{Taken}
 use Rattle.job.specs.declared.take.Taken.the-variants as the-taken
 use Rattle.rules.proofs.Choices.{choiceRight, choices-right, decides-right}
@@ -51,24 +53,45 @@ module _ (r : Rules) (s n : ℕ) (L : List (List ℕ)) (ms ls ms2 ls2 : List ℕ
   same : readDecisions (length ms) (r .arcs .values) 2 mostLines L ≡ readDecisions n (r .arcs .values) 2 mostLines L
   same = ap (λ (i : ℕ). readDecisions i (r .arcs .values) 2 mostLines L) (length-of n _ ms full)
 
-  -- a wrong line is printed
-  pub carried-wrong : (i : ℕ) → t ≡ the-taken.Wrong i → jobLine i ≡ doneText r s (readDecisions n (r .arcs .values) 2 mostLines L)
-  unfolding doneText
-  carried-wrong i e =
+  taken-wrong : (i : ℕ) → t ≡ the-taken.Wrong i → readDecisions n (r .arcs .values) 2 mostLines L ≡ wrongLine i
+  taken-wrong i e =
       let w : readDecisions (length ms) (r .arcs .values) 2 mostLines L ≡ wrongLine i = subst (λ (x : Taken). Took (readDecisions (length ms) (r .arcs .values) 2 mostLines L) ms ls x ms2 ls2) e k in
-      ap (doneText r s) (sym (sym same ∙ w))
+      sym same ∙ w
+
+  -- a wrong line is printed
+  pub carried-wrong : (i : ℕ) → t ≡ the-taken.Wrong i → jobLine i ≡ rota r s n L
+  unfolding rota doneText
+  carried-wrong i e = ap (doneText r s) (sym (taken-wrong i e))
+
+  pub mend-wrong : (all : List (List ℕ)) → L ≡ beforeDrawn all → (i : ℕ) → t ≡ the-taken.Wrong i → jobLine i ≡ mend r s n all
+  unfolding mend mendText
+  mend-wrong all b i e =
+      ap (mendText r s all) (sym (taken-wrong i e) ∙ ap (readDecisions n (r .arcs .values) 2 mostLines) b)
 
   module _ (e : t ≡ the-taken.All) where
     took : (ds : List _) × (readDecisions (length ms) (r .arcs .values) 2 mostLines L ≡ days (length ms) ds) × (places ms2 ls2 ≡ decides (places ms ls) ds)
     took = subst (λ (x : Taken). Took (readDecisions (length ms) (r .arcs .values) 2 mostLines L) ms ls x ms2 ls2) e k
 
+    taken-all : readDecisions n (r .arcs .values) 2 mostLines L ≡ days n (took .0)
+    taken-all = sym same ∙ (took .1 ∙ ap (λ (i : ℕ). days i (took .0)) (length-of n _ ms full))
+
+    standing : places ms2 ls2 ≡ asked r n (took .0)
+    standing = took .2 ∙ (ap (λ (xs : List ℕ). decides (places xs ls) (took .0)) full ∙ ap (λ (xs : List ℕ). decides (places (replicate n (2 ^ r .arcs .values - 1)) xs) (took .0)) tops)
+
     -- all lines are taken: what the filter then tells is printed
-    pub carried-all : verdictText (verdictOf r s 0 (places ms2 ls2)) ≡ doneText r s (readDecisions n (r .arcs .values) 2 mostLines L)
-    unfolding doneText
-    carried-all =
-        let w = took in
-        ap (λ (ps : List _). verdictText (verdictOf r s 0 ps)) (w .2 ∙ (ap (λ (xs : List ℕ). decides (places xs ls) (w .0)) full ∙ ap (λ (xs : List ℕ). decides (places (replicate n (2 ^ r .arcs .values - 1)) xs) (w .0)) tops))
-        ∙ ap (doneText r s) (sym (sym same ∙ (w .1 ∙ ap (λ (i : ℕ). days i (w .0)) (length-of n _ ms full))))
+    pub carried-all : verdictText (verdictOf r s 0 (places ms2 ls2)) ≡ rota r s n L
+    unfolding rota doneText
+    carried-all = ap (λ (ps : List _). verdictText (verdictOf r s 0 ps)) standing ∙ ap (doneText r s) (sym taken-all)
+
+    -- or the last two lines decide
+    pub mend-all : (all rest : List (List ℕ)) (number : ℕ) → L ≡ beforeDrawn all → rest ≡ fromDrawn all → number ≡ 2 + length (beforeDrawn all)
+        → wishText r s (places ms2 ls2) (readWish n (r .arcs .values) number rest) ≡ mend r s n all
+    unfolding mend mendText
+    mend-all all rest number b f c =
+        ap (λ (ps : List _). wishText r s ps (readWish n (r .arcs .values) number rest)) standing
+        ∙ (ap (λ (x : List (List ℕ)). wishText r s (asked r n (took .0)) (readWish n (r .arcs .values) number x)) f
+        ∙ (ap (λ (i : ℕ). wishText r s (asked r n (took .0)) (readWish n (r .arcs .values) i (fromDrawn all))) c
+        ∙ ap (mendText r s all) (sym taken-all ∙ ap (readDecisions n (r .arcs .values) 2 mostLines) b)))
 
     -- and no mask has a bit at or above V
     pub carried-right : length ms2 ≡ length ms → length ls2 ≡ length ls → masksRight (r .arcs .values) ms2 ≡ true
@@ -88,11 +111,20 @@ take-replicate (suc n) (suc m) x h = ap (λ (l : List ℕ). x ∷ l) (take-repli
 pub first-of : (n m x : ℕ) (xs : List ℕ) → n ≤ m → xs ≡ replicate m x → take n xs ≡ replicate n x
 first-of n m x xs h e = ap (take n) e ∙ take-replicate n m x h
 
--- the days line: n is in range
-pub days-range : (l : List ℕ) (d : Days) (n : ℕ) → daysView d ≡ readDays l → d ≡ the-days.Right n → (1 ≤ n) × (n ≤ mostDays)
+-- a task by another name
+pub task-is : (t u : Task) (r : Rules) (s n : ℕ) (ls : List (List ℕ)) → t ≡ u → program u r s n ls ≡ program t r s n ls
+task-is t u r s n ls e = ap (λ (x : Task). program x r s n ls) (sym e)
+
+-- the days line
+pub days-is : (l : List ℕ) → readCount (100 ∷ 97 ∷ 121 ∷ 115 ∷ []) 1 mostDays l ≡ readDays l
+unfolding readCount readDays
+days-is l = refl
+
+-- n is in range
+pub days-range : (l : List ℕ) (d : Count) (n : ℕ) → countView d ≡ readDays l → d ≡ the-count.Right n → (1 ≤ n) × (n ≤ mostDays)
 unfolding readDays
 days-range l d n e k =
-    let x : onStrip (strip daysWord l) _ (wrong Form) ≡ right n = sym e ∙ ap daysView k in
+    let x : onStrip (strip daysWord l) _ (wrong Form) ≡ right n = sym e ∙ ap countView k in
     let (s, e0, f0) = onStrip-right (strip daysWord l) _ n x in
     let (m, t, e1, f1) = onField-right (readNumber 1 mostDays s) _ n f0 in
     let w = number-read 1 mostDays s m t e1 in
@@ -100,23 +132,23 @@ days-range l d n e k =
     (omega (arith, w .low, c .2), omega (arith, w .high, c .2))
 
 -- the job by its first line
-module _ (r : Rules) (s v : ℕ) (text : List ℕ) where
-  pub job-empty : length text ≡ 0 → jobLine 1 ≡ doneText r s (readJob v (lines text))
-  unfolding doneText readJob lines
-  job-empty h = ap (λ (t : List ℕ). doneText r s (readJob v (lines t))) (sym (none text h))
+module _ (done : ℕ → List (List ℕ) → List ℕ) (text : List ℕ) where
+  pub job-empty : length text ≡ 0 → jobLine 1 ≡ daysDone done (lines text)
+  unfolding daysDone lines
+  job-empty h = ap (λ (t : List ℕ). daysDone done (lines t)) (sym (none text h))
     where
       none : (t : List ℕ) → length t ≡ 0 → t ≡ []
       none [] h = refl
       none (b ∷ t) h = absurd (omega arith)
 
-  module _ (end : ℕ) (l : LineAt text 0 end) (d : Days) (e : daysView d ≡ readDays (take end text)) where
+  module _ (end : ℕ) (l : LineAt text 0 end) (d : Count) (e : countView d ≡ readDays (take end text)) where
     cuts : lines text ≡ take end text ∷ lines (drop end text)
     cuts = let z : end - 0 ≡ end = omega arith in rw z at (l .cuts)
 
-    pub job-wrong : (f : Fault) → d ≡ the-days.Wrong f → jobLine 1 ≡ doneText r s (readJob v (lines text))
-    unfolding doneText readJob
-    job-wrong f k = sym (rw (cuts, sym e ∙ ap daysView k))
+    pub job-wrong : (f : Fault) → d ≡ the-count.Wrong f → jobLine 1 ≡ daysDone done (lines text)
+    unfolding daysDone
+    job-wrong f k = sym (rw (cuts, sym e ∙ ap countView k))
 
-    pub job-right : (n : ℕ) → d ≡ the-days.Right n → readDecisions n v 2 mostLines (lines (drop end text)) ≡ readJob v (lines text)
-    unfolding readJob
-    job-right n k = sym (rw (cuts, sym e ∙ ap daysView k))
+    pub job-right : (n : ℕ) → d ≡ the-count.Right n → done n (lines (drop end text)) ≡ daysDone done (lines text)
+    unfolding daysDone
+    job-right n k = sym (rw (cuts, sym e ∙ ap countView k))

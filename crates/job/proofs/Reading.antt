@@ -13,23 +13,23 @@ use Rattle.rules.specs.Checks.{rulesRight}
 use Rattle.text.specs.Lines.{lines}
 use Rattle.sheet.specs.Reading.{Outcome, readLeft, readOf}
 use Rattle.sheet.proofs.OneText.{one-text}
-use Rattle.job.specs.Input.{longestInput, before, parted, after, readJob}
+use Rattle.job.specs.Input.{longestInput, before, parted, after}
 use Rattle.job.specs.Output.{longText, sheetLine, jobLine}
-use Rattle.job.specs.Job.{doneText, jobDone, sheetDone, jobText}
+use Rattle.job.specs.Job.{Program, daysDone, jobDone, sheetDone, programText}
 
-module _ (s : List ℕ) (r : Outcome) (a n q v b m : ℕ) (t c : List ℕ) (e : readLeft a n q v b m t c ≡ r) where
-  pub sheet-wrong : (a ≡ 0 → ⊥) → sheetLine n ≡ sheetDone s r
+module _ (p : Program) (s : List ℕ) (r : Outcome) (a n q v b m : ℕ) (t c : List ℕ) (e : readLeft a n q v b m t c ≡ r) where
+  pub sheet-wrong : (a ≡ 0 → ⊥) → sheetLine n ≡ sheetDone p s r
   unfolding sheetDone
-  sheet-wrong h = subst (λ (o : Outcome). sheetLine n ≡ sheetDone s o) e (rw (ne-eqb a 0 h))
+  sheet-wrong h = subst (λ (o : Outcome). sheetLine n ≡ sheetDone p s o) e (rw (ne-eqb a 0 h))
 
-  pub job-missing : a ≡ 0 → parted true s ≡ false → jobLine 1 ≡ sheetDone s r
+  pub job-missing : a ≡ 0 → parted true s ≡ false → jobLine 1 ≡ sheetDone p s r
   unfolding sheetDone jobDone
-  job-missing h k = subst (λ (o : Outcome). jobLine 1 ≡ sheetDone s o) e (rw (eq-eqb a 0 h, k))
+  job-missing h k = subst (λ (o : Outcome). jobLine 1 ≡ sheetDone p s o) e (rw (eq-eqb a 0 h, k))
 
-  pub job-there : (x : List ℕ) → x ≡ after true s → a ≡ 0 → parted true s ≡ true → doneText (rulesOf q v t c m) b (readJob v (lines x)) ≡ sheetDone s r
+  pub job-there : (x : List ℕ) → x ≡ after true s → a ≡ 0 → parted true s ≡ true → daysDone (p (rulesOf q v t c m) b) (lines x) ≡ sheetDone p s r
   unfolding sheetDone jobDone
   job-there x w h k =
-      subst (λ (o : Outcome). doneText (rulesOf q v t c m) b (readJob v (lines x)) ≡ sheetDone s o) e (rw (eq-eqb a 0 h, k, w))
+      subst (λ (o : Outcome). daysDone (p (rulesOf q v t c m) b) (lines x) ≡ sheetDone p s o) e (rw (eq-eqb a 0 h, k, w))
 
 -- the rest of the input, as a part that is lent
 pub rest-is : (s : List ℕ) (i : ℕ) → take (length s - i) (drop i s) ≡ drop i s
@@ -40,10 +40,10 @@ pub read-right : (text xs ys : List ℕ) (a n q v b m : ℕ) (t c : List ℕ) �
 read-right text xs ys a n q v b m t c e h = one-text text xs ys n q v b m t c (sym e ∙ ap (λ (i : ℕ). readLeft i n q v b m t c) h) .right
 
 -- the input's length
-pub long-input : (s : List ℕ) → longestInput < length s → longText ≡ jobText s
-unfolding jobText
-long-input s h = rw (lt-ltb longestInput (length s) h)
+pub long-input : (p : Program) (s : List ℕ) → longestInput < length s → longText ≡ programText p s
+unfolding programText
+long-input p s h = rw (lt-ltb longestInput (length s) h)
 
-pub short-input : (s : List ℕ) → length s ≤ longestInput → sheetDone s (readOf (before true s) (replicate tableSize 0) (replicate tableSize 0)) ≡ jobText s
-unfolding jobText
-short-input s h = rw (le-ltb longestInput (length s) h)
+pub short-input : (p : Program) (s : List ℕ) → length s ≤ longestInput → sheetDone p s (readOf (before true s) (replicate tableSize 0) (replicate tableSize 0)) ≡ programText p s
+unfolding programText
+short-input p s h = rw (le-ltb longestInput (length s) h)

@@ -1,4 +1,4 @@
--- What the program prints has 1,823 bytes at the most, which examples/longest.job prints. Assumes nothing.
+-- What a program prints has 1,823 bytes at the most, which examples/longest.job prints by rota. Assumes nothing.
 use mathlib.Core.Path.{_≡_, refl, sym, _∙_}
 use mathlib.Core.Bool.{Bool, true, false, cond, _&&_}
 use mathlib.Core.List.{List, [], _∷_, _++_, map}
@@ -8,7 +8,7 @@ use lib.Dec.{eqb, ltb}
 use lib.ListN.{length, replicate, length-append, length-replicate}
 use lib.Pow.{pow-mono}
 use borrow.Author.Tests.{eqb-true, ltb-false}
-use Rattle.meaning.specs.Meaning.{Rules, rulesOf, Place, places, rosters, keptAt, kept, Decision, decides, verdict, verdictOf}
+use Rattle.meaning.specs.Meaning.{Rules, rulesOf, Place, places, rosters, keptAt, kept, Decision, verdict, verdictOf}
 use Rattle.meaning.specs.Lists.{from}
 use Rattle.meaning.specs.Bounds.{mostValues, tableSize, top}
 use Rattle.meaning.proofs.Members.{length-places}
@@ -22,10 +22,10 @@ use Rattle.text.specs.Writing.{Wrote}
 use Rattle.text.proofs.Decimals.{decimal-length, field-length}
 use Rattle.sheet.specs.Reading.{Outcome, readOf}
 use Rattle.sheet.proofs.WrongLine.{read-line}
-use Rattle.job.specs.Input.{longestInput, longestOutput, mostDays, mostLines, before, parted, after, readDays, readDecision, Job, days, wrongLine, withDecision, readDecisions, readJob}
+use Rattle.job.specs.Input.{longestInput, longestOutput, mostDays, mostLines, before, parted, after, readDays, readDecision, Job, days, wrongLine, withDecision, readDecisions}
 use Rattle.job.specs.Output.{longText, noneText, sheetLine, jobLine, keptLine, leastLine, keptLines, verdictText}
-use Rattle.job.specs.Job.{doneText, jobDone, sheetDone, jobText}
-use Rattle.job.specs.declared.asks.Days.the-variants as the-days
+use Rattle.job.specs.Job.{Program, asked, daysDone, doneText, rota, jobDone, sheetDone, programText, jobText}
+use Rattle.job.specs.declared.asks.Count.the-variants as the-count
 use Rattle.job.proofs.Planning.{right-size, days-range}
 use Rattle.job.proofs.Reading.{read-right}
 
@@ -38,7 +38,7 @@ sheet-line : (n : ℕ) → n < 100000 → length (sheetLine n) ≤ mostPrinted
 unfolding sheetLine
 sheet-line n h = simp (field-length) (omega (arith, decimal-length 4 n h))
 
-job-line : (n : ℕ) → n < 1000 → length (jobLine n) ≤ mostPrinted
+pub job-line : (n : ℕ) → n < 1000 → length (jobLine n) ≤ mostPrinted
 unfolding jobLine
 job-line n h = simp (field-length) (omega (arith, decimal-length 2 n h))
 
@@ -95,40 +95,44 @@ text-short a c ks hk hc = go (eqb a 0)
 verdict-short : (r : Rules) (q : ℕ) (ps : List Place) → r .arcs .values ≤ mostValues → length ps ≤ mostDays → length (verdictText (verdictOf r q 0 ps)) ≤ mostPrinted
 verdict-short r q ps hv hn = text-short (verdictOf r q 0 ps .answered) (verdictOf r q 0 ps .cheapest) (verdictOf r q 0 ps .masks) (masks-short r q ps hv hn) (verdict-cheap r q 0 ps (omega arith))
 
--- a job's days and its wrong line
-abbrev JobIn : Job → Type 0
-JobIn (days n ds) = n ≤ mostDays
-JobIn (wrongLine k) = k ≤ 514
+-- a job's days and its wrong line; and of a right job, which has c lines with the days line, there are no more than it may have
+abbrev pub JobIn : ℕ → Job → Type 0
+JobIn c (days n ds) = (n ≤ mostDays) × (c ≤ 514)
+JobIn c (wrongLine k) = k ≤ 514
 
-with-in : (d : Decision) (j : Job) → JobIn j → JobIn (withDecision d j)
-with-in d (days n ds) h = h
-with-in d (wrongLine k) h = h
+with-in : (c : ℕ) (d : Decision) (j : Job) → JobIn c j → JobIn c (withDecision d j)
+with-in c d (days n ds) h = h
+with-in c d (wrongLine k) h = h
 
-decisions-in : (n v k room : ℕ) (ls : List (List ℕ)) → n ≤ mostDays → k + room ≤ 514 → JobIn (readDecisions n v k room ls)
+pub decisions-in : (n v k room : ℕ) (ls : List (List ℕ)) → n ≤ mostDays → k + room ≤ 514 → JobIn (k + length ls) (readDecisions n v k room ls)
 unfolding readDecisions
-decisions-in n v k room [] h r = h
+decisions-in n v k room [] h r = (h, omega arith)
 decisions-in n v k zero (l ∷ ls) h r = omega arith
-decisions-in n v k (suc room) (l ∷ ls) h r = go (readDecision n v l) (decisions-in n v (suc k) room ls h (omega arith))
+decisions-in n v k (suc room) (l ∷ ls) h r =
+    let e : k + suc (length ls) ≡ suc k + length ls = omega arith in
+    rw e (go (readDecision n v l) (decisions-in n v (suc k) room ls h (omega arith)))
   where
-    go : (x : Judged Decision) → JobIn (readDecisions n v (suc k) room ls) → JobIn (onJudged x (λ d. withDecision d (readDecisions n v (suc k) room ls)) (λ y. wrongLine k))
-    go (right d) m = with-in d (readDecisions n v (suc k) room ls) m
+    go : (x : Judged Decision) → JobIn (suc k + length ls) (readDecisions n v (suc k) room ls) → JobIn (suc k + length ls) (onJudged x (λ d. withDecision d (readDecisions n v (suc k) room ls)) (λ y. wrongLine k))
+    go (right d) m = with-in (suc k + length ls) d (readDecisions n v (suc k) room ls) m
     go (wrong f) m = omega arith
 
-job-in : (v : ℕ) (ls : List (List ℕ)) → JobIn (readJob v ls)
-unfolding readJob
-job-in v [] = omega arith
-job-in v (l ∷ ls) = go (readDays l) refl
-  where
-    go : (x : Judged ℕ) → readDays l ≡ x → JobIn (onJudged x (λ n. readDecisions n v 2 mostLines ls) (λ y. wrongLine 1))
-    go (right n) e = decisions-in n v 2 mostLines ls (days-range l (the-days.Right n) n (sym e) refl .1) (omega arith)
-    go (wrong f) e = omega arith
+pub asked-length : (r : Rules) (n : ℕ) (ds : List Decision) → length (asked r n ds) ≡ n
+asked-length r n ds =
+    length-decides (places (replicate n (2 ^ r .arcs .values - 1)) (replicate n top)) ds
+    ∙ (length-places (replicate n (2 ^ r .arcs .values - 1)) (replicate n top) (length-replicate n (2 ^ r .arcs .values - 1) ∙ sym (length-replicate n top)) ∙ length-replicate n (2 ^ r .arcs .values - 1))
 
-done-short : (r : Rules) (s : ℕ) (j : Job) → r .arcs .values ≤ mostValues → JobIn j → length (doneText r s j) ≤ mostPrinted
+done-short : (r : Rules) (s c : ℕ) (j : Job) → r .arcs .values ≤ mostValues → JobIn c j → length (doneText r s j) ≤ mostPrinted
 unfolding doneText
-done-short r s (wrongLine k) hv h = job-line k (omega arith)
-done-short r s (days n ds) hv h =
-    verdict-short r s (decides (places (replicate n (2 ^ r .arcs .values - 1)) (replicate n top)) ds) hv
-    (omega (arith, length-decides (places (replicate n (2 ^ r .arcs .values - 1)) (replicate n top)) ds, length-places (replicate n (2 ^ r .arcs .values - 1)) (replicate n top) (length-replicate n (2 ^ r .arcs .values - 1) ∙ sym (length-replicate n top)), length-replicate n (2 ^ r .arcs .values - 1)))
+done-short r s c (wrongLine k) hv h = job-line k (omega arith)
+done-short r s c (days n ds) hv h = verdict-short r s (asked r n ds) hv (omega (arith, asked-length r n ds, h .0))
+
+-- a program that prints no more
+abbrev pub Short : Program → Type 0
+Short p = (r : Rules) (s n : ℕ) (ls : List (List ℕ)) → r .arcs .values ≤ mostValues → n ≤ mostDays → length (p r s n ls) ≤ mostPrinted
+
+rota-short : Short rota
+unfolding rota
+rota-short r s n ls hv hn = done-short r s (2 + length ls) (readDecisions n (r .arcs .values) 2 mostLines ls) hv (decisions-in n (r .arcs .values) 2 mostLines ls hn (omega arith))
 
 -- the sheet is a part of the input
 before-length : (start : Bool) (s : List ℕ) → length (before start s) ≤ length s
@@ -140,38 +144,52 @@ before-length start (b ∷ s) = go (start && eqb b feed) (before-length (eqb b f
     go true h = omega arith
     go false h = omega arith
 
--- of a right sheet
-job-done : (s x t c : List ℕ) → readOf x t c .answer ≡ 0 → length (jobDone s (readOf x t c)) ≤ mostPrinted
-unfolding jobDone
-job-done s x t c e = go (parted true s)
-  where
-    r : Outcome
-    r = readOf x t c
+module _ (p : Program) (short : Short p) where
+  days-done : (r : Rules) (s : ℕ) (ls : List (List ℕ)) → r .arcs .values ≤ mostValues → length (daysDone (p r s) ls) ≤ mostPrinted
+  unfolding daysDone
+  days-done r s [] hv = job-line 1 (omega arith)
+  days-done r s (l ∷ ls) hv = go (readDays l) refl
+    where
+      go : (x : Judged ℕ) → readDays l ≡ x → length (onJudged x (λ n. p r s n ls) (λ y. jobLine 1)) ≤ mostPrinted
+      go (right n) e = short r s n ls hv (days-range l (the-count.Right n) n (sym e) refl .1)
+      go (wrong f) e = job-line 1 (omega arith)
 
-    few : r .values ≤ mostValues
-    few = right-size _ _ _ _ _ _ (read-right x t c (r .answer) (r .line) (r .states) (r .values) (r .start) (r .accepting) (r .targets) (r .costs) refl e) .few-values
+  -- of a right sheet
+  job-done : (s x t c : List ℕ) → readOf x t c .answer ≡ 0 → length (jobDone p s (readOf x t c)) ≤ mostPrinted
+  unfolding jobDone
+  job-done s x t c e = go (parted true s)
+    where
+      r : Outcome
+      r = readOf x t c
 
-    go : (k : Bool) → length (cond k (doneText (rulesOf (r .states) (r .values) (r .targets) (r .costs) (r .accepting)) (r .start) (readJob (r .values) (lines (after true s)))) (jobLine 1)) ≤ mostPrinted
-    go true = done-short (rulesOf (r .states) (r .values) (r .targets) (r .costs) (r .accepting)) (r .start) (readJob (r .values) (lines (after true s))) few (job-in (r .values) (lines (after true s)))
-    go false = job-line 1 (omega arith)
+      few : r .values ≤ mostValues
+      few = right-size _ _ _ _ _ _ (read-right x t c (r .answer) (r .line) (r .states) (r .values) (r .start) (r .accepting) (r .targets) (r .costs) refl e) .few-values
 
-sheet-done : (s x t c : List ℕ) → length x ≤ longestInput → length (sheetDone s (readOf x t c)) ≤ mostPrinted
-unfolding sheetDone
-sheet-done s x t c h = go (eqb (readOf x t c .answer) 0) refl
-  where
-    go : (k : Bool) → eqb (readOf x t c .answer) 0 ≡ k → length (cond k (jobDone s (readOf x t c)) (sheetLine (readOf x t c .line))) ≤ mostPrinted
-    go true e = job-done s x t c (eqb-true _ _ e)
-    go false e = sheet-line (readOf x t c .line) (omega (arith, read-line x t c))
+      go : (k : Bool) → length (cond k (daysDone (p (rulesOf (r .states) (r .values) (r .targets) (r .costs) (r .accepting)) (r .start)) (lines (after true s))) (jobLine 1)) ≤ mostPrinted
+      go true = days-done (rulesOf (r .states) (r .values) (r .targets) (r .costs) (r .accepting)) (r .start) (lines (after true s)) few
+      go false = job-line 1 (omega arith)
 
+  sheet-done : (s x t c : List ℕ) → length x ≤ longestInput → length (sheetDone p s (readOf x t c)) ≤ mostPrinted
+  unfolding sheetDone
+  sheet-done s x t c h = go (eqb (readOf x t c .answer) 0) refl
+    where
+      go : (k : Bool) → eqb (readOf x t c .answer) 0 ≡ k → length (cond k (jobDone p s (readOf x t c)) (sheetLine (readOf x t c .line))) ≤ mostPrinted
+      go true e = job-done s x t c (eqb-true _ _ e)
+      go false e = sheet-line (readOf x t c .line) (omega (arith, read-line x t c))
+
+  pub program-most : (s : List ℕ) → length (programText p s) ≤ mostPrinted
+  unfolding programText
+  program-most s = go (ltb longestInput (length s)) refl
+    where
+      go : (k : Bool) → ltb longestInput (length s) ≡ k → length (cond k longText (sheetDone p s (readOf (before true s) (replicate tableSize 0) (replicate tableSize 0)))) ≤ mostPrinted
+      go true e = omega arith
+      go false e = sheet-done s (before true s) (replicate tableSize 0) (replicate tableSize 0) (omega (arith, before-length true s, ltb-false longestInput (length s) e))
+
+-- NO OUTPUT IS LONGER THAN WHAT A PROGRAM LENDS FOR IT
 pub job-most : (s : List ℕ) → length (jobText s) ≤ mostPrinted
 unfolding jobText
-job-most s = go (ltb longestInput (length s)) refl
-  where
-    go : (k : Bool) → ltb longestInput (length s) ≡ k → length (cond k longText (sheetDone s (readOf (before true s) (replicate tableSize 0) (replicate tableSize 0)))) ≤ mostPrinted
-    go true e = omega arith
-    go false e = sheet-done s (before true s) (replicate tableSize 0) (replicate tableSize 0) (omega (arith, before-length true s, ltb-false longestInput (length s) e))
+job-most s = program-most rota rota-short s
 
--- NO OUTPUT IS LONGER THAN WHAT THE PROGRAM LENDS FOR IT
 pub job-short : (s : List ℕ) → length (jobText s) ≤ longestOutput
 job-short s = omega (arith, job-most s)
 

@@ -58,11 +58,11 @@ with-more ds d (days n es) = ap (days n) (sym (append-assoc ds (d ∷ []) es))
 with-more ds d (wrongLine k) = refl
 
 -- a place inside a text begins a line
-some-line : (s : List ℕ) (at : ℕ) → at < length s → (l : List ℕ) × (ls : List (List ℕ)) × (lines (drop at s) ≡ l ∷ ls)
+pub some-line : (s : List ℕ) (at : ℕ) → at < length s → (l : List ℕ) × (ls : List (List ℕ)) × (lines (drop at s) ≡ (getD s at 0 ∷ l) ∷ ls)
 unfolding lines
 some-line s at h = let r = go (eqb (getD s at 0) feed) (lines (drop (suc at) s)) in (r .0, r .1, ap lines (drop-cons s at 0 h) ∙ r .2)
   where
-    go : (b : Bool) (ls : List (List ℕ)) → (l : List ℕ) × (ms : List (List ℕ)) × (onto (getD s at 0) b ls ≡ l ∷ ms)
+    go : (b : Bool) (ls : List (List ℕ)) → (l : List ℕ) × (ms : List (List ℕ)) × (onto (getD s at 0) b ls ≡ (getD s at 0 ∷ l) ∷ ms)
     go true ls = (_, _, refl)
     go false [] = (_, _, refl)
     go false (l ∷ ls) = (_, _, refl)
@@ -117,7 +117,7 @@ module _ (text : List ℕ) (v : ℕ) (ms ls : List ℕ) (j : Job) (ms2 ls2 : Lis
   pub going-full : at < length text → number ≡ linesEnd → j ≡ wrongLine number
   going-full h e =
       let s = some-line text at h in
-      g .job ∙ ap (withDecisions (g .so-far)) (ap (readDecisions (length ms) v number (linesEnd - number)) (s .2) ∙ no-room (length ms) v number (s .0) (s .1) (linesEnd - number) (omega arith))
+      g .job ∙ ap (withDecisions (g .so-far)) (ap (readDecisions (length ms) v number (linesEnd - number)) (s .2) ∙ no-room (length ms) v number _ (s .1) (linesEnd - number) (omega arith))
 
   module _ (end : ℕ) (l : LineAt text at end) (a : Asked) (r : askedView a ≡ readDecision (length ms2) v (take (end - at) (drop at text))) (room : number < linesEnd) where
     here : askedView a ≡ readDecision (length ms) v (take (end - at) (drop at text))

@@ -79,8 +79,3 @@ readDecisions n v k room [] = days n []
 readDecisions n v k zero (l ∷ ls) = wrongLine k
 readDecisions n v k (suc room) (l ∷ ls) =
     onJudged (readDecision n v l) (λ d. withDecision d (readDecisions n v (suc k) room ls)) (λ x. wrongLine k)
-
-unfoldable pub readJob : ℕ → List (List ℕ) → Job
-unfolding readDays readDecisions
-readJob v [] = wrongLine 1
-readJob v (l ∷ ls) = onJudged (readDays l) (λ n. readDecisions n v 2 mostLines ls) (λ x. wrongLine 1)

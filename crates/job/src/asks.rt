@@ -1,10 +1,13 @@
 // The lines of a job, each judged by itself.
 ghost use mathlib.Core.Path.{_≡_};
+ghost use mathlib.Core.Bool.{true};
 ghost use Prim.Native.Nat.{_≤_};
 ghost use lib.ListN.{drop};
 ghost use Rattle.meaning.specs.Bounds.{mostValues};
-ghost use Rattle.job.specs.Input.{mostDays, readDays, readKeep, readLimit, readDecision};
-ghost use Rattle.job.specs.Inner.{daysView, AskedAt};
+ghost use Rattle.meaning.specs.Lists.{all};
+ghost use Rattle.text.specs.Bytes.{isSmall};
+ghost use Rattle.job.specs.Input.{mostDays, readKeep, readLimit, readDecision};
+ghost use Rattle.job.specs.Inner.{countView, readCount, AskedAt};
 use kinds::Mask;
 use text::bytes::begins;
 use text::lines::End;
@@ -18,9 +21,9 @@ use text::numbers::number_at;
 // As many days as a job may have.
 pub(crate) const MOST_DAYS: u32 = 128;
 
-// The first line: n.
-pub(crate) enum Days {
-    Right(usize),
+// A line of a word and a number.
+pub(crate) enum Count {
+    Right(u32),
     Wrong(Fault),
 }
 
@@ -31,21 +34,22 @@ pub(crate) enum Asked {
     Wrong(Fault),
 }
 
-// The days line.
-pub(crate) fn days_line(line: &[u8]) -> Days
-    ensures { λ r. ⌜ daysView r ≡ readDays (now (line .entry)) ⌝ }
+// A line of that word and a number in range.
+pub(crate) fn count_line(line: &[u8], word: &[u8], low: u32, high: u32) -> Count
+    requires { ⌜ all isSmall (now word) ≡ true ⌝ }
+    ensures { λ r. ⌜ countView r ≡ readCount (now (word .entry)) low high (now (line .entry)) ⌝ }
 {
-    if !begins(line, b"days") {
-        return Days::Wrong(Fault::Form);
+    if !begins(line, word) {
+        return Count::Wrong(Fault::Form);
     }
-    let n = number_at(line, 5, 1, MOST_DAYS);
-    let Number::Value(places, end) = n else {
-        return Days::Wrong(fault_of(n));
+    let n = number_at(line, word.len() + 1, low, high);
+    let Number::Value(count, end) = n else {
+        return Count::Wrong(fault_of(n));
     };
     let e = close_at(line, end, true);
     match e {
-        End::Fine => Days::Right(places as usize),
-        End::Faulty(f) => Days::Wrong(f),
+        End::Fine => Count::Right(count),
+        End::Faulty(f) => Count::Wrong(f),
     }
 }
 

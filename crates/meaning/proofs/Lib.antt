@@ -7,3 +7,4 @@ pub mod Narrow
 pub mod Comparing
 pub mod Decisions
 pub mod Verdicts
+pub mod Stepping

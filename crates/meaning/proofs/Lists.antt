@@ -75,11 +75,21 @@ module _ {A : Type 0} where
   in-some (head p) = refl
   in-some (tail m) = refl
 
+  -- a list, as a map of itself
+  pub map-all : (xs : List A) → xs ≡ map (λ x. x) xs
+  map-all [] = refl
+  map-all (x ∷ xs) = ap (λ (l : List A). x ∷ l) (map-all xs)
+
 module _ {A B : Type 0} where
   -- functions that agree on the list send it to the same
   pub map-same : (f g : A → B) (xs : List A) → ((x : A) → In x xs → f x ≡ g x) → map f xs ≡ map g xs
   map-same f g [] h = refl
   map-same f g (x ∷ xs) h = rw (h x (head refl), map-same f g xs (λ y m. h y (tail m)))
+
+  -- two maps one upon the other
+  pub map-two : {C : Type 0} (f : B → C) (g : A → B) (h : A → C) (xs : List A) → ((x : A) → f (g x) ≡ h x) → map f (map g xs) ≡ map h xs
+  map-two f g h [] e = refl
+  map-two f g h (x ∷ xs) e = rw (e x, map-two f g h xs e)
 
   -- what is in the joined lists is in the list of one of them
   pub each-in : (f : A → List B) (xs : List A) {y : B} → In y (each f xs) → (x : A) × In x xs × In y (f x)

@@ -26,6 +26,13 @@ tableSize = mostStates * mostValues
 abbrev pub workSize : ℕ → ℕ
 workSize n = (n + 1) * mostStates
 
+-- the most changes that a planner can be asked for, and the numbers of the work table that it is lent: a row for each layer and number of changes
+abbrev pub mostChanges : ℕ
+mostChanges = 7
+
+abbrev pub planSize : ℕ → ℕ
+planSize n = (mostChanges + 1) * workSize n
+
 -- no running cost passes this, so a limit above it counts as it. Laws speak of it by name alone.
 unfoldable pub top : ℕ
 top = mostPlaces * mostCost

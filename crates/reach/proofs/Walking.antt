@@ -1,5 +1,5 @@
 -- The walk along the first roster, place by place.
-use mathlib.Core.Path.{_≡_, refl, sym, ap, _∙_, subst}
+use mathlib.Core.Path.{_≡_, refl, sym, _∙_, subst}
 use mathlib.Core.Bool.{Bool, true, false, and-eq-true-iff, false≢true}
 use mathlib.Core.List.{List, [], _∷_, _++_, map, append-assoc, append-nil}
 use mathlib.Core.List.{List·Memᴰ as In, List·Memᴰ·not-nil as not-nil}
@@ -17,6 +17,7 @@ use Rattle.kinds.proofs.Lowest.{Sought, sought-more, smallest-is, smallest-leas
 use Rattle.meaning.specs.Meaning.{Rules, rulesOf, Place, place, places, rosters, allowed}
 use Rattle.meaning.specs.Lists.{those}
 use Rattle.meaning.specs.Bounds.{top}
+use Rattle.meaning.proofs.Lists.{map-two, map-all}
 use Rattle.meaning.proofs.Members.{roster-in, allowed-length}
 use Rattle.rooms.specs.Tables.{Filled, Net, turned, frame, room, capped, roomsBy, Needed, Bare}
 use Rattle.reach.specs.Looks.{Meant, leadsOn, takeable, Walks}
@@ -24,15 +25,6 @@ use Rattle.rooms.proofs.Rooms.{Way, room-way}
 use Rattle.rooms.proofs.Layering.{drop-places, drop-all, bare-fill}
 use Rattle.reach.proofs.Needing.{rooms-copied}
 use Rattle.reach.proofs.Firsts.{first-goes, first-way, first-none}
-
--- two maps one upon the other
-map-two : {A B C : Type 0} (f : B → C) (g : A → B) (h : A → C) (xs : List A) → ((x : A) → f (g x) ≡ h x) → map f (map g xs) ≡ map h xs
-map-two f g h [] e = refl
-map-two f g h (x ∷ xs) e = rw (e x, map-two f g h xs e)
-
-map-all : {A : Type 0} (xs : List A) → xs ≡ map (λ x. x) xs
-map-all [] = refl
-map-all {A} (x ∷ xs) = ap (λ (l : List A). x ∷ l) (map-all xs)
 
 -- behind the last place the empty roster is left, if some is
 ends : (r : Rules) (q s : ℕ) (ps : List Place) → ps ≡ [] → Way r q s ps → rosters r q s ps ≡ [] ∷ []

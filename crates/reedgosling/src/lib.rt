@@ -1,5 +1,6 @@
 // The C boundary: numbers as themselves, a slice as a pointer and a length; the answer's number is returned, carried numbers are written.
 ghost use mathlib.Core.Path.{_≡_};
+ghost use mathlib.Core.Bool.{cond};
 ghost use Rattle.meaning.specs.Meaning.{rulesOf, Keep, Limit};
 ghost use Rattle.rules.specs.Report.{outcome, reportOf};
 ghost use Rattle.rules.specs.Checks.{handed};
@@ -8,10 +9,12 @@ ghost use Rattle.ledger.specs.Readiness.{left as leftIn};
 ghost use Rattle.ledger.specs.Calls.{opened, called};
 ghost use Rattle.filter.specs.Filter.{left, filterOf};
 ghost use Rattle.filter.specs.First.{given, firstOf};
+ghost use Rattle.mending.specs.Outcomes.{planned, mendOf, checkOf};
 ghost use Rattle.sheet.specs.Reading.{readLeft, readOf};
 ghost use Rattle.scribe.specs.Writing.{writeLeft, writeOf};
 ghost use Rattle.text.specs.Writing.{Wrote};
 ghost use Rattle.job.specs.Job.{jobText};
+ghost use Rattle.job.specs.Mend.{mendJobText};
 use kinds::State;
 use kinds::Value;
 use rules::Size;
@@ -115,6 +118,95 @@ pub extern "C" fn reedgosling_prefix_report(
     let reported = rules::prefix_report(places, size, targets, costs, accepting, roster);
     let answer = reported.answer;
     *report = reported.report;
+    answer.number() as u32
+}
+
+#[no_mangle]
+pub extern "C" fn reedgosling_mend(
+    places: usize,
+    states: usize,
+    values: usize,
+    start: u8,
+    targets: &[u8],
+    costs: &[u16],
+    accepting: u64,
+    masks: &[u16],
+    limits: &[u32],
+    drawn: &[u8],
+    most: u32,
+    roster: &mut [u8],
+    work: &mut [u32],
+    changes: &mut u32,
+) -> u32
+    ensures { λ r. ⌜ planned r (now (changes .exit)) (now (roster .exit)) (now (work .exit)) ≡ mendOf (handed places states values start (now (targets .entry)) (now (costs .entry)) accepting) (now (masks .entry)) (now (limits .entry)) (now (drawn .entry)) most (now (roster .entry)) (now (work .entry)) ⌝ }
+{
+    let size = Size {
+        states,
+        values,
+        start: State(start),
+    };
+    let mended = planner::mend(
+        places,
+        size,
+        targets,
+        costs,
+        accepting,
+        masks,
+        limits,
+        drawn,
+        most,
+        roster,
+        work,
+    );
+    let answer = mended.answer;
+    *changes = mended.changes;
+    answer.number() as u32
+}
+
+// A yes or no as a number.
+fn told(says: bool) -> u8
+    ensures { λ r. ⌜ r ≡ cond says 1 0 ⌝ }
+{
+    if says { 1 } else { 0 }
+}
+
+#[no_mangle]
+pub extern "C" fn reedgosling_check(
+    places: usize,
+    states: usize,
+    values: usize,
+    start: u8,
+    targets: &[u8],
+    costs: &[u16],
+    accepting: u64,
+    masks: &[u16],
+    limits: &[u32],
+    drawn: &[u8],
+    roster: &[u8],
+    claimed: u32,
+    says: &mut u8,
+) -> u32
+    ensures { λ r. ⌜ (r ≡ checkOf (handed places states values start (now (targets .entry)) (now (costs .entry)) accepting) (now (masks .entry)) (now (limits .entry)) (now (drawn .entry)) (now (roster .entry)) claimed .answer) × (now (says .exit) ≡ cond (checkOf (handed places states values start (now (targets .entry)) (now (costs .entry)) accepting) (now (masks .entry)) (now (limits .entry)) (now (drawn .entry)) (now (roster .entry)) claimed .says) 1 0) ⌝ }
+{
+    let size = Size {
+        states,
+        values,
+        start: State(start),
+    };
+    let checked = checker::check_roster(
+        places,
+        size,
+        targets,
+        costs,
+        accepting,
+        masks,
+        limits,
+        drawn,
+        roster,
+        claimed,
+    );
+    let answer = checked.answer;
+    *says = told(checked.says);
     answer.number() as u32
 }
 
@@ -323,4 +415,11 @@ pub extern "C" fn reedgosling_job(input: &[u8], output: &mut [u8]) -> usize
     ensures { λ r. ⌜ Wrote (now (output .entry)) 0 (jobText (now (input .entry))) (now (output .exit)) r ⌝ }
 {
     job::job(input, output)
+}
+
+#[no_mangle]
+pub extern "C" fn reedgosling_mend_job(input: &[u8], output: &mut [u8]) -> usize
+    ensures { λ r. ⌜ Wrote (now (output .entry)) 0 (mendJobText (now (input .entry))) (now (output .exit)) r ⌝ }
+{
+    job::mend_job(input, output)
 }

@@ -76,7 +76,7 @@ module _ (a : Net) (q : ℕ) where
   best-falls g fall (v ∷ vs) =
       rw (best-falls g fall vs, less-less (g (a .to q v)) fall (a .fee q v)) (max-less (g (a .to q v) - a .fee q v) (best a g q vs) fall)
 
-  best-low : (g : ℕ → ℕ) (most : ℕ) → ((t : ℕ) → g t ≤ most) → (vs : List ℕ) → best a g q vs ≤ most
+  pub best-low : (g : ℕ → ℕ) (most : ℕ) → ((t : ℕ) → g t ≤ most) → (vs : List ℕ) → best a g q vs ≤ most
   unfolding best
   best-low g most h [] = omega arith
   best-low g most h (v ∷ vs) = omega (arith, h (a .to q v), best-low g most h vs)

@@ -80,6 +80,19 @@ bare-fill {n = n} {needs} {now} e b f = record { none = λ k h. go k h (decLt k 
     go k h (yes l) = within now k (suc top) 0 l ∙ (f .left k h ∙ (within needs k 0 (suc top) (omega arith) ∙ b .none k h))
     go k h (no l) = List·getD-eq-default now (suc top) {n = k} (omega arith)
 
+-- a row of needs, at whatever target, where what is no state has no room
+pub needed-at : {r : ℕ → ℕ} {n : ℕ} {needs : List ℕ} → ((q : ℕ) → n ≤ q → r q ≡ 0) → Needed r n needs → (t : ℕ) → needAt needs t ≡ need (r t)
+needed-at {r} {n} {needs} z l t = go (decLt t n)
+  where
+    go : Dec (t < n) → needAt needs t ≡ need (r t)
+    go (yes h) = l .done t h
+    go (no h) = omega (arith, l .none t (omega arith), z t (omega arith))
+
+pub needed-fill : {g : ℕ → ℕ} {n : ℕ} (r : ℕ → ℕ) {needs now : List ℕ} → n ≤ length now → length now ≡ length needs → Bare n needs
+    → Filled g n needs now → ((q : ℕ) → q < n → g q ≡ need (r q)) → Needed r n now
+needed-fill r {now = now} l m a b e =
+    record { done = λ q d. within now q (suc top) 0 (omega arith) ∙ (b .done q d ∙ e q d); none = bare-fill m a b .none }
+
 module _ (f : Frame) (ms ls : List ℕ) (same : length ls ≡ length ms) where
   -- no room at what is no state
   pub layer-none : (i q : ℕ) → f .states ≤ q → layer f ms ls i q ≡ 0
@@ -94,21 +107,8 @@ module _ (f : Frame) (ms ls : List ℕ) (same : length ls ≡ length ms) where
   unfolding layer
   layer-low i q = omega arith
 
-  -- a row of needs, at whatever target, and the room that it stands for
-  pub needed-at : (i : ℕ) (needs : List ℕ) → Needed (layer f ms ls i) (f .states) needs → (t : ℕ) → needAt needs t ≡ need (layer f ms ls i t)
-  needed-at i needs l t = go (decLt t (f .states))
-    where
-      go : Dec (t < f .states) → needAt needs t ≡ need (layer f ms ls i t)
-      go (yes h) = l .done t h
-      go (no h) = omega (arith, l .none t (omega arith), layer-none i t (omega arith))
-
-  needed-fill : {g : ℕ → ℕ} {needs now : List ℕ} (i : ℕ) → f .states ≤ length now → length now ≡ length needs → ((k : ℕ) → f .states ≤ k → needAt needs k ≡ suc top)
-      → Filled g (f .states) needs now → ((q : ℕ) → q < f .states → g q ≡ need (layer f ms ls i q)) → Needed (layer f ms ls i) (f .states) now
-  needed-fill {now = now} i l m a b e =
-      record { done = λ q d. within now q (suc top) 0 (omega arith) ∙ (b .done q d ∙ e q d); none = bare-fill m (record { none = a }) b .none }
-
   -- the last layer
-  last-row : (least q : ℕ) → least ≡ top - before ls (length ms) → q < f .states → max (cond (bit (f .accepting) q) 0 (suc top)) least ≡ need (layer f ms ls (length ms) q)
+  pub last-row : (least q : ℕ) → least ≡ top - before ls (length ms) → q < f .states → max (cond (bit (f .accepting) q) 0 (suc top)) least ≡ need (layer f ms ls (length ms) q)
   unfolding layer room
   last-row least q e h = rw (drop-all ms ls same, lt-ltb q (f .states) h) (go (bit (f .accepting) q))
     where
@@ -121,7 +121,7 @@ module _ (f : Frame) (ms ls : List ℕ) (same : length ls ≡ length ms) where
       × Filled (λ q. max (cond (bit (f .accepting) q) 0 (suc top)) least) (f .states) needs now
       → Layers f ms ls (length ms) work × Needed (layer f ms ls (length ms)) (f .states) now
   layers-last least was work needs now long m e l y =
-      (record { right = λ j q h k hq. at j q (omega arith) hq }, needed-fill (length ms) long m (l .none) (y .1) (λ q h. last-row least q e h))
+      (record { right = λ j q h k hq. at j q (omega arith) hq }, needed-fill (layer f ms ls (length ms)) long m (record { none = l .none }) (y .1) (λ q h. last-row least q e h))
     where
       at : (j q : ℕ) → j ≡ length ms → q < f .states → getD work (j * 64 + q) 0 ≡ need (layer f ms ls j q)
       at j q d hq = rw d (y .0 .row q hq ∙ last-row least q e hq)
@@ -136,7 +136,7 @@ module _ (f : Frame) (ms ls : List ℕ) (same : length ls ≡ length ms) where
       → max (need (best (f .net) (roomsBy needs) q (choices (f .values) (getD ms i 0)))) least ≡ need (layer f ms ls i q)
   unfolding layer
   more-row i least q needs h e l hq =
-      let n : _≡_ {A = ℕ → ℕ} (roomsBy needs) (layer f ms ls (suc i)) = λ j t. needed-rooms _ _ _ (needed-at (suc i) needs l t) j in
+      let n : _≡_ {A = ℕ → ℕ} (roomsBy needs) (layer f ms ls (suc i)) = λ j t. needed-rooms _ _ _ (needed-at (layer-none (suc i)) l t) j in
       rw (layer-best i q h hq, n) (omega arith)
 
   -- any row that is layer i, laid before the layers behind it
@@ -145,7 +145,7 @@ module _ (f : Frame) (ms ls : List ℕ) (same : length ls ≡ length ms) where
       → Layers f ms ls (i + 1) was × Needed (layer f ms ls (i + 1)) (f .states) needs → Laid g (f .states) i was work × Filled g (f .states) needs now
       → Layers f ms ls i work × Needed (layer f ms ls i) (f .states) now
   layers-lay g i {was} {work} {needs} {now} few long m h right r y =
-      (record { right = λ j q a b hq. go j q a b hq (ℕ-discrete j i) }, needed-fill i (omega arith) m (r .1 .none) (y .1) right)
+      (record { right = λ j q a b hq. go j q a b hq (ℕ-discrete j i) }, needed-fill (layer f ms ls i) (omega arith) m (record { none = r .1 .none }) (y .1) right)
     where
       go : (j q : ℕ) → i ≤ j → j ≤ length ms → q < f .states → Dec (j ≡ i) → getD work (j * 64 + q) 0 ≡ need (layer f ms ls j q)
       go j q a b hq (yes d) = rw d (y .0 .row q hq ∙ right q hq)
@@ -160,7 +160,7 @@ module _ (f : Frame) (ms ls : List ℕ) (same : length ls ≡ length ms) where
       → Filled (λ k. getD (take ((i + 1) * 64 + 64 - (i + 1) * 64) (drop ((i + 1) * 64) work)) k 0) (f .states) needs now
       → (u : ℕ) → needAt now u ≡ need (capped (getD ls i 0) (room f (drop (suc i) (places ms ls)) u))
   unfolding layer
-  row-copied i work needs now h l m hi r none c = needed-at (suc i) now (needed-fill (suc i) l m none c
+  row-copied i work needs now h l m hi r none c = needed-at (layer-none (suc i)) (needed-fill (layer f ms ls (suc i)) l m (record { none = none }) c
       (λ u k. sym (c .done u k) ∙ (copied-row i work (f .states) needs now h c u k ∙ r .right (suc i) u (omega arith) (omega arith) k)))
 
 -- numbers that fit: the needs one place on, and those of the layers behind

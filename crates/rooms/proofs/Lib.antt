@@ -7,4 +7,5 @@ pub mod Turning
 pub mod Layering
 pub mod Choosing
 pub mod Falling
+pub mod Nearing
 pub mod Unique

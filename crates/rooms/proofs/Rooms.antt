@@ -125,7 +125,7 @@ module _ (r : Rules) (n : Net) (same : Same (r .arcs) (r .arcs .values) n) where
 
 -- two nets that have the arcs of one rule set leave the same rooms
 module _ (r : Rules) (m n : Net) (s : Same (r .arcs) (r .arcs .values) m) (t : Same (r .arcs) (r .arcs .values) n) where
-  best-same : (next : ℕ → ℕ) (q : ℕ) → q < r .arcs .states → (vs : List ℕ) → ((v : ℕ) → In v vs → v < r .arcs .values) → best m next q vs ≡ best n next q vs
+  pub best-same : (next : ℕ → ℕ) (q : ℕ) → q < r .arcs .states → (vs : List ℕ) → ((v : ℕ) → In v vs → v < r .arcs .values) → best m next q vs ≡ best n next q vs
   unfolding best
   best-same next q h [] b = refl
   best-same next q h (v ∷ vs) b =

@@ -1,13 +1,14 @@
 -- The sizes of what the passes are lent.
 use mathlib.Core.Path.{_≡_, refl, sym, _∙_}
-use mathlib.Core.Bool.{true, false, false≢true}
+use mathlib.Core.Bool.{Bool, true, false, false≢true}
 use mathlib.Core.List.{List}
-use Prim.Native.Nat.{ℕ, _≤_}
+use Prim.Native.Nat.{ℕ, _≤_, _<_}
 use native.Mathlib.Omega.{arith}
 use native.Mathlib.Decide.{decLe, ℕ-discrete}
-use lib.ListN.{length}
-use Rattle.meaning.specs.Bounds.{mostPlaces, mostStates, mostValues, tableSize, workSize}
+use lib.ListN.{length, take, length-take}
+use Rattle.meaning.specs.Bounds.{mostPlaces, mostStates, mostValues, mostChanges, tableSize, workSize, planSize}
 use Rattle.rooms.specs.Tables.{Sizes, Fits, Prepared, Prepares}
+use Rattle.rooms.specs.Changes.{PlanSizes, Nears, NearRuns}
 
 -- lists of the same lengths have the same sizes
 pub sizes-same : {qs vs : ℕ} {t c ms ls work ts cs own caps now : List ℕ} → Sizes qs vs t c ms ls work → length ts ≡ length t → length cs ≡ length c
@@ -63,3 +64,40 @@ prepares-not h = record { right = λ e. absurd (false≢true e); wrong = λ e. (
 pub prepares-is : {qs vs accepting : ℕ} {t c ms ls to fee arcs work to′ fee′ arcs′ work′ : List ℕ} → Sizes qs vs t c ms ls work → length to ≡ tableSize → length fee ≡ tableSize
     → Prepared qs vs t c accepting ms ls to fee arcs work to′ fee′ arcs′ work′ → Prepares qs vs t c accepting ms ls to fee arcs work to′ fee′ arcs′ work′ true
 prepares-is s a b p = record { right = λ e. (s, a, b, p); wrong = λ e. absurd (false≢true (sym e)) }
+
+-- the same for the table by changes
+pub plan-not : {qs vs k : ℕ} {t c ms ls ds work : List ℕ} → (PlanSizes qs vs t c ms ls ds k work → ⊥)
+    → (false ≡ true → PlanSizes qs vs t c ms ls ds k work) × (false ≡ false → PlanSizes qs vs t c ms ls ds k work → ⊥)
+plan-not h = (λ e. absurd (false≢true e), λ e. h)
+
+pub plan-fits : {qs vs k : ℕ} {t c ms ls ds work : List ℕ} {found : Bool} → length ds ≡ length ms → k ≤ mostChanges → length work ≡ planSize (length ms)
+    → Fits qs vs t c ms ls (take (workSize (length ms)) work) found → (found ≡ true → PlanSizes qs vs t c ms ls ds k work) × (found ≡ false → PlanSizes qs vs t c ms ls ds k work → ⊥)
+plan-fits d k w f = (λ e. record { plain = f .right e; all-drawn = d; few-changes = k; all-rows = w }, λ e s. f .wrong e (s .plain))
+
+-- tables of the same lengths, and no more changes
+pub plan-same : {qs vs k : ℕ} {t c ts cs ms ls ds work : List ℕ} → PlanSizes qs vs t c ms ls ds k work → length ts ≡ length t → length cs ≡ length c → PlanSizes qs vs ts cs ms ls ds k work
+plan-same s a b = record { plain = sizes-same (s .plain) a b refl refl refl; all-drawn = s .all-drawn; few-changes = s .few-changes; all-rows = s .all-rows }
+
+pub plan-fewer : {qs vs k : ℕ} (j : ℕ) {t c ms ls ds work now : List ℕ} → PlanSizes qs vs t c ms ls ds k work → j ≤ k → length now ≡ length work → PlanSizes qs vs t c ms ls ds j now
+plan-fewer j s h e =
+    record { plain = sizes-same (s .plain) refl refl refl refl (simp length-take (omega arith)); all-drawn = s .all-drawn; few-changes = omega (arith, s .few-changes); all-rows = e ∙ s .all-rows }
+
+pub plan-right : (qs vs : ℕ) (t c ms ls ds : List ℕ) (k : ℕ) (work : List ℕ) → Dec (PlanSizes qs vs t c ms ls ds k work)
+plan-right qs vs t c ms ls ds k work =
+    go (sizes-right qs vs t c ms ls (take (workSize (length ms)) work)) (ℕ-discrete (length ds) (length ms)) (decLe k mostChanges) (ℕ-discrete (length work) (planSize (length ms)))
+  where
+    go : Dec (Sizes qs vs t c ms ls (take (workSize (length ms)) work)) → Dec (length ds ≡ length ms) → Dec (k ≤ mostChanges) → Dec (length work ≡ planSize (length ms))
+        → Dec (PlanSizes qs vs t c ms ls ds k work)
+    go (yes a) (yes b) (yes d) (yes e) = yes (record { plain = a; all-drawn = b; few-changes = d; all-rows = e })
+    go (no a) b d e = no (λ s. a (s .plain))
+    go (yes a) (no b) d e = no (λ s. b (s .all-drawn))
+    go (yes a) (yes b) (no d) e = no (λ s. d (s .few-changes))
+    go (yes a) (yes b) (yes d) (no e) = no (λ s. e (s .all-rows))
+
+pub nears-not : {qs vs accepting start spent k : ℕ} {t c ms ls ds work : List ℕ} → (PlanSizes qs vs t c ms ls ds k work → start < qs → ⊥)
+    → NearRuns qs vs t c accepting start spent ms ls ds k work work 18446744073709551615
+nears-not h = record { right = λ s l. absurd (h s l); wrong = λ e. (refl, refl) }
+
+pub nears-is : {qs vs accepting start spent k made : ℕ} {t c ms ls ds work work′ : List ℕ} → PlanSizes qs vs t c ms ls ds k work → start < qs
+    → Nears qs vs t c accepting start spent ms ls ds k work work′ made → NearRuns qs vs t c accepting start spent ms ls ds k work work′ made
+nears-is s l n = record { right = λ a b. n; wrong = λ h. absurd (h s l) }

@@ -376,7 +376,7 @@ pub(crate) fn fill_last(
     needs: &mut [u32],
     work: &mut [u32],
 )
-    requires { ⌜ (states ≤ mostStates) × (length (now needs) ≡ 256) × (i ≤ mostPlaces) × (i * mostStates + mostStates ≤ length (now work)) ⌝ }
+    requires { ⌜ (states ≤ mostStates) × (length (now needs) ≡ 256) × (i * mostStates + mostStates ≤ length (now work)) ⌝ }
     ensures { λ _. ⌜ Laid (λ q. max (cond (bit accepting q) 0 (suc top)) least) states i (now (work .entry)) (now (work .exit)) × Filled (λ q. max (cond (bit accepting q) 0 (suc top)) least) states (now (needs .entry)) (now (needs .exit)) ⌝ }
 {
     let at = i * bounds::MOST_STATES;

@@ -1,4 +1,5 @@
 pub mod Checks
+pub mod Refusals
 pub mod Choices
 pub mod Lawful
 pub mod Within

@@ -4,9 +4,10 @@ use mathlib.Core.Bool.{Bool, true}
 use mathlib.Core.List.{List, [], _∷_}
 use Prim.Native.Nat.{ℕ, _+_, _*_, min}
 use lib.ListN.{getD}
+use Rattle.kinds.specs.Bits.{bit}
 use Rattle.kinds.specs.declared.State.{State}
 use Rattle.kinds.specs.declared.Value.{Value}
-use Rattle.rules.specs.Report.{Outcome, outcome, reportChecks, reportOf}
+use Rattle.rules.specs.Report.{Outcome, outcome, valuesRight, reportChecks, reportOf}
 use Rattle.rules.specs.Checks.{Handed, sizeRight, sizesRight, tablesLong, rulesRight, masksRight}
 use Rattle.rules.specs.Answers.{numberOf, zeros, order, inOrder}
 use Rattle.rules.specs.declared.Answer.{Answer}
@@ -71,6 +72,12 @@ rules-right-unique q v s t c f a b = test-unique
 
 pub masks-right-unique : (v : ℕ) (ms : List ℕ) (a b : Bool) → a ≡ masksRight v ms → b ≡ masksRight v ms → a ≡ b
 masks-right-unique v ms a b = test-unique
+
+pub values-right-unique : (v : ℕ) (w : List ℕ) (a b : Bool) → a ≡ valuesRight v w → b ≡ valuesRight v w → a ≡ b
+values-right-unique v w a b = test-unique
+
+pub holds-unique : (set : ℕ) (q : State) (a b : Bool) → a ≡ bit set (q .0) → b ≡ bit set (q .0) → a ≡ b
+holds-unique set q a b = test-unique
 
 -- tables
 pub arc-at-unique : (q : State) (v : Value) (values r s : ℕ) → r ≡ q .0 * values + v .0 → s ≡ q .0 * values + v .0 → r ≡ s

@@ -1,5 +1,5 @@
 -- The walk of a drawn roster, step by step, and that its steps are those of the longest prefix. Assumes nothing.
-use mathlib.Core.Path.{_≡_, sym, _∙_}
+use mathlib.Core.Path.{_≡_, refl, sym, _∙_}
 use mathlib.Core.Bool.{Bool, true, false, cond}
 use mathlib.Core.List.{List, [], _∷_}
 use Prim.Native.Nat.{ℕ, suc, _+_, _-_, _*_, _≤_, _<_}
@@ -8,7 +8,7 @@ use native.Mathlib.Omega.{arith}
 use lib.Dec.{ltb}
 use lib.ListN.{length, getD, drop, drop-of-length-le, length-drop}
 use lib.Seq.{drop-cons}
-use borrow.Author.Tests.{ltb-true}
+use borrow.Author.Tests.{ltb-true, lt-ltb}
 use Rattle.kinds.specs.Bits.{bit}
 use Rattle.meaning.specs.Lists.{Filled}
 use Rattle.meaning.specs.Meaning.{Rules, target}
@@ -25,6 +25,12 @@ pub values-below : (v : ℕ) (w : List ℕ) → valuesRight v w ≡ true → Bel
 unfolding valuesRight
 values-below v [] e = tt
 values-below v (x ∷ w) e = let b = both (ltb x v) _ e in (ltb-true _ _ (b .0), values-below v w (b .1))
+
+-- and a roster whose values are all below V is right
+pub below-right : (v : ℕ) (w : List ℕ) → Below v w → valuesRight v w ≡ true
+unfolding valuesRight
+below-right v [] b = refl
+below-right v (x ∷ w) b = rw (lt-ltb x v (b .0)) (below-right v w (b .1))
 
 module _ (vs : ℕ) (t layers : List ℕ) (q : ℕ) (w : List ℕ) (i : ℕ) where
   abbrev led : ℕ

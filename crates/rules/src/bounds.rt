@@ -13,5 +13,8 @@ pub const NO_TARGET: u8 = 255;
 // The places of a lent rule table.
 pub const TABLE_SIZE: usize = MOST_STATES * MOST_VALUES;
 
+// The most changes that a planner can be asked for.
+pub const MOST_CHANGES: u32 = 7;
+
 // No running cost passes this.
 pub const TOP: u32 = (MOST_PLACES as u32) * (MOST_COST as u32);

@@ -15,7 +15,7 @@ use kinds::State;
 use kinds::Value;
 
 // Whether a state is in a set.
-pub(crate) fn holds(set: u64, q: State) -> bool
+pub fn holds(set: u64, q: State) -> bool
     ensures { λ r. ⌜ r ≡ bit set (q .0) ⌝ }
 {
     if bounds::MOST_STATES <= (q.0 as usize) {

@@ -14,9 +14,9 @@ ghost use Rattle.rules.specs.Answers.{numberOf};
 
 pub mod arcs;
 pub mod bounds;
-mod finish;
+pub mod finish;
 pub mod numbers;
-mod steps;
+pub mod steps;
 
 use kinds::Mask;
 use kinds::State;

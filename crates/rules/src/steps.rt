@@ -12,7 +12,7 @@ use kinds::State;
 use kinds::Value;
 
 // Whether every value of the roster is below V: else answer 7.
-pub(crate) fn values_right(values: usize, roster: &[u8]) -> bool
+pub fn values_right(values: usize, roster: &[u8]) -> bool
     ensures { λ r. ⌜ r ≡ valuesRight values (now (roster .entry)) ⌝ }
 {
     let mut i: usize = 0;

@@ -1,18 +1,5 @@
 //! The program of the paper, from standard input to standard output.
 
-use second::job::{run, MOST_INPUT};
-use std::io::{self, Read, Write};
-
-/// One byte more than the most is enough to see that the input is long. A reading that fails
-/// is treated as the end of the input, and what came before it stands.
-fn read_input() -> Vec<u8> {
-    let mut input = Vec::new();
-    let most = MOST_INPUT as u64 + 1;
-    match io::stdin().take(most).read_to_end(&mut input) {
-        Ok(_) | Err(_) => input,
-    }
-}
-
-fn main() -> io::Result<()> {
-    io::stdout().write_all(&run(&read_input()))
+fn main() -> std::io::Result<()> {
+    second::stdio::filter(second::job::run)
 }

@@ -1,4 +1,4 @@
-//! What the program that carries a script out holds: ten slices and five numbers.
+//! What the program that carries a script out holds: twelve slices and five numbers.
 
 use super::call::Call;
 use super::lent::{Lent, Slice};
@@ -16,7 +16,7 @@ type Sizes = [u64; 5];
 /// All zeros and all lengths 0 at first.
 pub struct Bench {
     sizes: Sizes,
-    rooms: [Room; 10],
+    rooms: [Room; 12],
 }
 
 impl Default for Bench {

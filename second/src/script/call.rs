@@ -3,8 +3,9 @@
 use super::content::{checksum, content};
 use super::lent::{Lent, Slice};
 use crate::answer::Answer;
+use crate::rules::Case;
 use crate::session::Request;
-use crate::{calls, job, report, session, sheet};
+use crate::{calls, job, mend, mendjob, report, session, sheet};
 use std::fmt;
 
 /// A call with its own numbers. All else that it is handed stands on the bench.
@@ -13,11 +14,14 @@ pub enum Call {
     Filter,
     First { place: usize, value: u8 },
     Report,
+    Mend { most: u32 },
+    Check { claimed: u32 },
     Read,
     Write,
     Open,
     Ask(Request),
     Job,
+    MendJob,
 }
 
 /// What a call came to: its answer number, or the word that a job prints first.
@@ -42,6 +46,8 @@ impl Call {
             Call::Filter => "filter",
             Call::First { .. } => "first",
             Call::Report => "report",
+            Call::Mend { .. } => "mend",
+            Call::Check { .. } => "check",
             Call::Read => "read",
             Call::Write => "write",
             Call::Open => "open",
@@ -50,6 +56,7 @@ impl Call {
             Call::Ask(Request::Mark) => "mark",
             Call::Ask(Request::Back) => "back",
             Call::Job => "job",
+            Call::MendJob => "mendjob",
         }
     }
 
@@ -58,6 +65,8 @@ impl Call {
         let name = self.name();
         match self {
             Call::First { place, value } => format!("{name}\t{place}\t{value}"),
+            Call::Mend { most } => format!("{name}\t{most}"),
+            Call::Check { claimed } => format!("{name}\t{claimed}"),
             Call::Ask(Request::Keep { place, mask }) => format!("{name}\t{place}\t{mask}"),
             Call::Ask(Request::Limit { place, limit }) => format!("{name}\t{place}\t{limit}"),
             _ => name.to_owned(),
@@ -71,17 +80,19 @@ impl Call {
             Call::Filter => &[Targets, Costs, Masks, Limits, Kept, Work],
             Call::First { .. } => &[Targets, Costs, Masks, Limits, Roster, Work],
             Call::Report => &[Targets, Costs, Roster],
+            Call::Mend { .. } => &[Targets, Costs, Masks, Limits, Roster, Drawn, Plan],
+            Call::Check { .. } => &[Targets, Costs, Masks, Limits, Roster, Drawn],
             Call::Read => &[Targets, Costs, Input],
             Call::Write => &[Targets, Costs, Output],
             Call::Open => &[Targets, Costs, Masks, Limits, Work, Session],
             Call::Ask(_) => &[Targets, Costs, Work, Session],
-            Call::Job => &[Input, Output],
+            Call::Job | Call::MendJob => &[Input, Output],
         }
     }
 
     /// Whether the call is handed the five numbers.
     pub fn uses_sizes(self) -> bool {
-        !matches!(self, Call::Read | Call::Job)
+        !matches!(self, Call::Read | Call::Job | Call::MendJob)
     }
 
     /// Makes the call: what it came to, and the line that it prints. "Whether a slice is
@@ -106,8 +117,10 @@ impl Call {
 
     /// What the call came to, and the numbers that it prints.
     fn work(self, lent: &mut Lent) -> (CameTo, Vec<u64>) {
-        if self == Call::Job {
-            return do_job(&lent.input, &mut lent.output);
+        match self {
+            Call::Job => return print(&job::run(&lent.input), &mut lent.output),
+            Call::MendJob => return print(&mendjob::run(&lent.input), &mut lent.output),
+            _ => {}
         }
         let (answer, carried) = self.ask_plain_program(lent);
         let answer = answer.number();
@@ -116,8 +129,8 @@ impl Call {
 
     /// The answer and the numbers that it carries.
     fn ask_plain_program(self, lent: &mut Lent) -> (Answer, Vec<u64>) {
-        let Lent { places, rules, masks, limits, kept, roster, work, session, input, output } =
-            lent;
+        let Lent { places, rules, masks, limits, kept, roster, work, session, .. } = lent;
+        let Lent { input, output, drawn, plan, .. } = lent;
         let places = *places;
         match self {
             Call::Filter => {
@@ -132,6 +145,16 @@ impl Call {
                 let (answer, report) = report::prefix_report(places, rules, roster);
                 (answer, vec![report as u64])
             }
+            Call::Mend { most } => {
+                let case = Case { rules, masks, limits };
+                let (answer, changes) = mend::mend(places, &case, drawn, most, roster, plan);
+                (answer, vec![u64::from(changes)])
+            }
+            Call::Check { claimed } => {
+                let case = Case { rules, masks, limits };
+                let (answer, says) = mend::check(places, &case, drawn, roster, claimed);
+                (answer, vec![u64::from(says)])
+            }
             Call::Read => {
                 let (targets, costs) = (&mut rules.targets, &mut rules.costs);
                 let (answer, carried) = sheet::read_sheet(input, targets, costs);
@@ -143,14 +166,13 @@ impl Call {
             }
             Call::Open => (session::open(places, rules, masks, limits, session, work), vec![]),
             Call::Ask(request) => (session::ask(places, rules, session, work, request), vec![]),
-            Call::Job => unreachable!("a job has no answer number"),
+            Call::Job | Call::MendJob => unreachable!("a job has no answer number"),
         }
     }
 }
 
 /// "What finds no room is dropped, and the length is given all the same."
-fn do_job(input: &[u8], output: &mut [u8]) -> (CameTo, Vec<u64>) {
-    let text = job::run(input);
+fn print(text: &[u8], output: &mut [u8]) -> (CameTo, Vec<u64>) {
     let room = text.len().min(output.len());
     output[..room].copy_from_slice(&text[..room]);
     let word = text.iter().take_while(|byte| byte.is_ascii_lowercase());

@@ -1,10 +1,11 @@
 //! What the calls of a script can be lent.
 
 use crate::cases::Problem;
+use crate::mend::{plan_length, Drawn};
 use crate::rules::{work_length, Case, Rules};
 use crate::session::memory_length;
 
-/// The ten slices of a script, in the order in which they are printed.
+/// The twelve slices of a script, in the order in which they are printed.
 #[derive(Clone, Copy, Debug, PartialEq, Eq)]
 pub enum Slice {
     Targets,
@@ -17,6 +18,8 @@ pub enum Slice {
     Session,
     Input,
     Output,
+    Drawn,
+    Plan,
 }
 
 impl Slice {
@@ -33,6 +36,8 @@ impl Slice {
             Slice::Session => ("session", 3_000),
             Slice::Input => ("input", 33_000),
             Slice::Output => ("output", 20_000),
+            Slice::Drawn => ("drawn", 400),
+            Slice::Plan => ("plan", 190_000),
         }
     }
 
@@ -44,7 +49,7 @@ impl Slice {
         self.name_and_room().1
     }
 
-    pub const ALL: [Slice; 10] = [
+    pub const ALL: [Slice; 12] = [
         Slice::Targets,
         Slice::Costs,
         Slice::Masks,
@@ -55,6 +60,8 @@ impl Slice {
         Slice::Session,
         Slice::Input,
         Slice::Output,
+        Slice::Drawn,
+        Slice::Plan,
     ];
 }
 
@@ -72,6 +79,8 @@ pub struct Lent {
     pub session: Vec<u32>,
     pub input: Vec<u8>,
     pub output: Vec<u8>,
+    pub drawn: Vec<u8>,
+    pub plan: Vec<u32>,
 }
 
 impl Lent {
@@ -90,6 +99,8 @@ impl Lent {
             session: vec![9; memory_length(places)],
             input: Vec::new(),
             output: Vec::new(),
+            drawn: vec![0; places],
+            plan: vec![0; plan_length(places)],
         }
     }
 
@@ -97,9 +108,19 @@ impl Lent {
         Case { rules: &self.rules, masks: &self.masks, limits: &self.limits }
     }
 
+    pub fn drawn(&self) -> Drawn<'_> {
+        Drawn { case: self.case(), roster: &self.drawn }
+    }
+
     /// Whether answers 1 to 4 do not concern the rules, masks and limits.
     pub fn is_right(&self) -> bool {
         self.case().is_right(self.places)
+    }
+
+    /// Whether answers 2 and 7 do not concern a roster.
+    pub fn values_right(&self, roster: &[u8]) -> bool {
+        roster.len() == self.places
+            && roster.iter().all(|value| usize::from(*value) < self.rules.values)
     }
 
     /// The entries of a slice as numbers.
@@ -115,6 +136,8 @@ impl Lent {
             Slice::Session => self.session.clone(),
             Slice::Input => widened(&self.input),
             Slice::Output => widened(&self.output),
+            Slice::Drawn => widened(&self.drawn),
+            Slice::Plan => self.plan.clone(),
         }
     }
 
@@ -133,6 +156,8 @@ impl Lent {
             Slice::Session => resize(&mut self.session, other),
             Slice::Input => resize(&mut self.input, other),
             Slice::Output => resize(&mut self.output, other),
+            Slice::Drawn => resize(&mut self.drawn, other),
+            Slice::Plan => resize(&mut self.plan, other),
         }
     }
 

@@ -8,7 +8,7 @@ use crate::session::Request;
 use crate::worked::w;
 
 /// The table of docs/CALLS.md: name, bits of an entry, room.
-const SLICES: [(&str, u32, usize); 10] = [
+const SLICES: [(&str, u32, usize); 12] = [
     ("targets", 8, 1_100),
     ("costs", 16, 1_100),
     ("masks", 16, 400),
@@ -19,6 +19,8 @@ const SLICES: [(&str, u32, usize); 10] = [
     ("session", 32, 3_000),
     ("input", 8, 33_000),
     ("output", 8, 20_000),
+    ("drawn", 8, 400),
+    ("plan", 32, 190_000),
 ];
 
 /// Reads a script line by line. It shares with the writer of scripts only how a call is worked
@@ -26,7 +28,7 @@ const SLICES: [(&str, u32, usize); 10] = [
 struct Interpreter {
     numbers: Vec<u64>,
     rooms: Vec<Vec<u64>>,
-    lengths: [usize; 10],
+    lengths: [usize; 12],
     printed: Vec<String>,
 }
 
@@ -35,7 +37,7 @@ impl Interpreter {
     fn carry_out(script: &[u8]) -> Vec<String> {
         let rooms = SLICES.map(|(_, _, room)| vec![0; room]).to_vec();
         let mut interpreter =
-            Interpreter { numbers: vec![0; 5], rooms, lengths: [0; 10], printed: Vec::new() };
+            Interpreter { numbers: vec![0; 5], rooms, lengths: [0; 12], printed: Vec::new() };
         let mut rest = script;
         while !rest.is_empty() {
             let end = rest.iter().position(|byte| *byte == b'\n').expect("lines end");
@@ -91,6 +93,8 @@ impl Interpreter {
             ("filter", []) => Call::Filter,
             ("first", &[place, value]) => Call::First { place: place as usize, value: value as u8 },
             ("report", []) => Call::Report,
+            ("mend", &[most]) => Call::Mend { most: most as u32 },
+            ("check", &[claimed]) => Call::Check { claimed: claimed as u32 },
             ("read", []) => Call::Read,
             ("write", []) => Call::Write,
             ("open", []) => Call::Open,
@@ -103,6 +107,7 @@ impl Interpreter {
             ("mark", []) => Call::Ask(Request::Mark),
             ("back", []) => Call::Ask(Request::Back),
             ("job", []) => Call::Job,
+            ("mendjob", []) => Call::MendJob,
             _ => return self.printed.push("unknown".to_owned()),
         };
         let mut lent = self.lent();
@@ -144,6 +149,8 @@ impl Interpreter {
             session: self.first("session"),
             input: self.first("input"),
             output: self.first("output"),
+            drawn: self.first("drawn"),
+            plan: self.first("plan"),
         }
     }
 }

@@ -40,6 +40,10 @@ fn with_wrong_numbers(random: &mut Random, lent: &Lent, call: Call) -> Call {
         Call::First { place, .. } => {
             Call::First { place, value: random.pick(&[values as u8, 16, 255]) }
         }
+        Call::Mend { most } => {
+            let most = random.pick(&[8, 9, u32::MAX, most | 1 << 8, most | 1 << 16]);
+            Call::Mend { most }
+        }
         Call::Ask(Request::Keep { place, .. }) if random.percent(50) => {
             let mask = random.pick(&[u16::MAX, 1 << 15, 1_u16.wrapping_shl(values as u32)]);
             Call::Ask(Request::Keep { place, mask })
@@ -60,19 +64,20 @@ fn damage_content(random: &mut Random, lent: &mut Lent, slice: Slice) {
     match slice {
         Slice::Targets | Slice::Costs => damage_tables(random, &mut lent.rules),
         Slice::Masks => damage_masks(random, &lent.rules, &mut lent.masks),
-        Slice::Roster => damage_roster(random, lent),
+        Slice::Roster => damage_values(random, lent.rules.values, &mut lent.roster),
+        Slice::Drawn => damage_values(random, lent.rules.values, &mut lent.drawn),
         Slice::Session => memory::damage(random, lent),
         Slice::Input => text::damage(random, &mut lent.input),
         // Any content is right here, so that only the length can be wrong.
-        Slice::Limits | Slice::Kept | Slice::Work | Slice::Output => {
+        Slice::Limits | Slice::Kept | Slice::Work | Slice::Output | Slice::Plan => {
             damage_length(random, lent, slice);
         }
     }
 }
 
-fn damage_roster(random: &mut Random, lent: &mut Lent) {
-    if !lent.roster.is_empty() {
-        let place = random.below(lent.roster.len());
-        lent.roster[place] = random.pick(&[lent.rules.values as u8, 16, 255]);
+fn damage_values(random: &mut Random, values: usize, roster: &mut [u8]) {
+    if !roster.is_empty() {
+        let place = random.below(roster.len());
+        roster[place] = random.pick(&[values as u8, 16, 255]);
     }
 }

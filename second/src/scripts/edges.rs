@@ -24,11 +24,17 @@ pub const CALLS: [Call; 11] = [
     Call::Job,
 ];
 
+/// The calls that came with request 1. Their cases stand behind all others.
+pub const MENDING_CALLS: [Call; 3] =
+    [Call::Mend { most: 2 }, Call::Check { claimed: 2 }, Call::MendJob];
+
 /// W with everything right for every call: the session has a mark that can be taken back.
 pub fn all_right() -> Lent {
     let mut lent = open_on_w();
     lent.work.fill(5);
     lent.roster = vec![1, 1, 2];
+    lent.drawn = vec![1, 0, 0];
+    lent.plan.fill(5);
     lent.input = W.as_bytes().to_vec();
     lent.output = vec![b'?'; W.len()];
     stand(&mut lent, vec![Entry::Keep { place: 0, mask: 7 }, Entry::Mark]);
@@ -43,28 +49,33 @@ pub fn stand(lent: &mut Lent, entries: Vec<Entry>) {
 
 /// Every call with one thing changed, at and beside the edges.
 pub fn faults(script: &mut Script) {
-    for call in CALLS {
-        script.begin(&format!("edges of {}", call.name()));
-        let right = all_right();
-        let mut changed = other_lengths(&right, call);
-        if call.uses_sizes() {
-            changed.extend(other_sizes(&right));
-        }
-        if call.uses().contains(&Slice::Targets) {
-            changed.extend(other_tables(&right));
-        }
-        if call.uses().contains(&Slice::Masks) {
-            changed.extend(other_masks(&right));
-        }
-        if call == Call::Report {
-            changed.extend(other_rosters(&right));
-        }
-        for mut lent in changed {
-            script.call(&mut lent, call);
-        }
-        for other in other_numbers(call) {
-            script.call(&mut right.clone(), other);
-        }
+    CALLS.into_iter().for_each(|call| faults_of(script, call));
+}
+
+pub fn faults_of(script: &mut Script, call: Call) {
+    script.begin(&format!("edges of {}", call.name()));
+    let right = all_right();
+    let mut changed = other_lengths(&right, call);
+    if call.uses_sizes() {
+        changed.extend(other_sizes(&right));
+    }
+    if call.uses().contains(&Slice::Targets) {
+        changed.extend(other_tables(&right));
+    }
+    if call.uses().contains(&Slice::Masks) {
+        changed.extend(other_masks(&right));
+    }
+    if matches!(call, Call::Report | Call::Check { .. }) {
+        changed.extend(other_rosters(&right));
+    }
+    if call.uses().contains(&Slice::Drawn) {
+        changed.extend(other_drawn(&right));
+    }
+    for mut lent in changed {
+        script.call(&mut lent, call);
+    }
+    for other in other_numbers(call) {
+        script.call(&mut right.clone(), other);
     }
 }
 
@@ -140,6 +151,12 @@ fn other_rosters(right: &Lent) -> Vec<Lent> {
     rosters.map(|roster| with(right, |lent| lent.roster = roster.to_vec())).to_vec()
 }
 
+/// Drawn values out of range, rosters that are not accepted, and one that is.
+fn other_drawn(right: &Lent) -> Vec<Lent> {
+    let rosters = [[3, 1, 2], [1, 1, 3], [0, 1, 255], [16, 1, 2], [0, 1, 2], [0, 0, 2], [2, 2, 2]];
+    rosters.map(|roster| with(right, |lent| lent.drawn = roster.to_vec())).to_vec()
+}
+
 /// The call with other numbers of its own.
 fn other_numbers(call: Call) -> Vec<Call> {
     let places = [&[0, 1, 2, 3, 366, usize::MAX][..], &cut_right(1)].concat();
@@ -158,12 +175,24 @@ fn other_numbers(call: Call) -> Vec<Call> {
             let limits = limits.map(|most| limit(1, most));
             places.map(|place| limit(place, most)).chain(limits).collect()
         }
+        Call::Mend { .. } => {
+            let beside = [&[0, 1, 2, 3, 7, 8, 9, u32::MAX][..], &CUT_TO_7].concat();
+            beside.into_iter().map(|most| Call::Mend { most }).collect()
+        }
+        Call::Check { .. } => {
+            let beside = [&[0, 1, 2, 3, 7, 8, 9, u32::MAX][..], &CUT_TO_2].concat();
+            beside.into_iter().map(|claimed| Call::Check { claimed }).collect()
+        }
         _ => Vec::new(),
     }
 }
 
+/// Numbers that equal 7, or 2, once they are cut to 8 or 16 bits.
+const CUT_TO_7: [u32; 2] = [7 + (1 << 8), 7 + (1 << 16)];
+const CUT_TO_2: [u32; 2] = [2 + (1 << 8), 2 + (1 << 16)];
+
 /// Every arc leads to the last state, where all begins, and is as dear as it may be.
-fn dearest(places: usize, states: usize, values: usize) -> Lent {
+pub fn dearest(places: usize, states: usize, values: usize) -> Lent {
     let rules = Rules {
         states,
         values,

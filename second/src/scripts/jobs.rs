@@ -12,9 +12,9 @@ use crate::sheet::sheet_of;
 use crate::worked::{w, W};
 
 /// The output as `rota` lends it.
-const OUTPUT: usize = 2_048;
+pub const OUTPUT: usize = 2_048;
 
-fn job_lent(input: &[u8], output: usize) -> Lent {
+pub fn job_lent(input: &[u8], output: usize) -> Lent {
     Lent { output: vec![b'?'; output], ..sheet_lent(input) }
 }
 
@@ -88,7 +88,7 @@ pub fn case(random: &mut Random, script: &mut Script) {
 }
 
 /// The days line and some decisions, seldom one that is out of range.
-fn job_lines(random: &mut Random, rules: &Rules, scale: Scale) -> String {
+pub fn job_lines(random: &mut Random, rules: &Rules, scale: Scale) -> String {
     let days = if scale == Scale::Full { random.from_to(1, 129) } else { random.from_to(1, 6) };
     let mut lines = format!("days\t{days}\n");
     for _ in 0..random.below(6) {

@@ -15,24 +15,28 @@ pub fn refusals(call: Call) -> &'static [u32] {
         Call::Ask(Request::Keep { .. } | Request::Limit { .. }) => &[1, 2, 3, 12, 7, 8, 11],
         Call::Ask(Request::Mark) => &[1, 2, 3, 12, 9, 11],
         Call::Ask(Request::Back) => &[1, 2, 3, 12, 10, 11],
-        Call::Job => &[],
+        Call::Mend { .. } => &[1, 2, 3, 4, 7, 11],
+        Call::Check { .. } => &[1, 2, 3, 4, 7],
+        Call::Job | Call::MendJob => &[],
     }
 }
 
 /// Each fault of each call alone, and with each fault that is checked for earlier.
 pub fn pairs(script: &mut Script) {
-    for call in CALLS {
-        script.begin(&format!("two faults in {}", call.name()));
-        let refusals = refusals(call);
-        for (index, later) in refusals.iter().enumerate() {
-            for earlier in &refusals[..=index] {
-                let (mut lent, mut asked) = (all_right(), call);
-                give_fault(*later, &mut lent, &mut asked);
-                if earlier != later {
-                    give_fault(*earlier, &mut lent, &mut asked);
-                }
-                script.call(&mut lent, asked);
+    CALLS.into_iter().for_each(|call| pairs_of(script, call));
+}
+
+pub fn pairs_of(script: &mut Script, call: Call) {
+    script.begin(&format!("two faults in {}", call.name()));
+    let refusals = refusals(call);
+    for (index, later) in refusals.iter().enumerate() {
+        for earlier in &refusals[..=index] {
+            let (mut lent, mut asked) = (all_right(), call);
+            give_fault(*later, &mut lent, &mut asked);
+            if earlier != later {
+                give_fault(*earlier, &mut lent, &mut asked);
             }
+            script.call(&mut lent, asked);
         }
     }
 }
@@ -60,6 +64,7 @@ fn give_range_fault(lent: &mut Lent, call: &mut Call) {
     match call {
         Call::First { place, .. } => *place = 3,
         Call::Ask(Request::Keep { place, .. } | Request::Limit { place, .. }) => *place = 3,
+        Call::Mend { most } => *most = 8,
         _ => lent.roster[2] = 3,
     }
 }

@@ -8,7 +8,7 @@ use crate::script::{Call, Lent, Script};
 use crate::sheet::sheet_of;
 
 /// How often a call is damaged: not at all, or up to three times.
-fn damages(random: &mut Random) -> usize {
+pub fn damages(random: &mut Random) -> usize {
     random.pick(&[0, 0, 0, 0, 0, 1, 1, 2, 3])
 }
 
@@ -53,7 +53,7 @@ fn any_call(random: &mut Random, lent: &mut Lent) -> Call {
 }
 
 /// A roster that mostly follows the arcs for a while before it goes astray.
-fn drawn_roster(random: &mut Random, places: usize, rules: &Rules) -> Vec<u8> {
+pub fn drawn_roster(random: &mut Random, places: usize, rules: &Rules) -> Vec<u8> {
     let mut roster: Vec<u8> = (0..places).map(|_| random.below(rules.values) as u8).collect();
     let follows = random.below(places + 1);
     let mut state = usize::from(rules.start);

@@ -1,14 +1,19 @@
-use super::edges::CALLS;
+use super::edges::{CALLS, MENDING_CALLS};
 use super::order::refusals;
 use super::*;
 use crate::script::{Call, CameTo};
 use crate::words::all_words;
-use crate::worked::{DRAWN_CASES, FIRST_CASES, KEPT_CASES};
+use crate::worked::{DRAWN_CASES, FIRST_CASES, KEPT_CASES, MENDED_CASES};
 use std::collections::BTreeSet;
 use std::sync::OnceLock;
 
 /// "Checks run in the order 1, 2, 3, 4, 5, 12, 7, 8, 9, 10, 6, 11."
 const ORDER: [u32; 12] = [1, 2, 3, 4, 5, 12, 7, 8, 9, 10, 6, 11];
+
+/// Every call.
+fn all_calls() -> impl Iterator<Item = Call> {
+    CALLS.into_iter().chain(MENDING_CALLS)
+}
 
 /// The fixed cases alone, written once for all tests.
 fn fixed() -> &'static Script {
@@ -43,10 +48,12 @@ fn every_call_meets_every_answer_that_it_can_give_and_no_other() {
     let script = fixed();
     let calls = script.printed().filter_map(|printed| printed.call.clone());
     let met: BTreeSet<(&str, CameTo)> = calls.collect();
-    let words = ["kept", "none", "long", "sheet", "job"];
-    let mut expected: BTreeSet<(&str, CameTo)> =
-        words.map(|word| ("job", CameTo::Word(word.to_owned()))).into();
-    for call in CALLS.into_iter().filter(|call| *call != Call::Job) {
+    let mut expected: BTreeSet<(&str, CameTo)> = BTreeSet::new();
+    for (name, done) in [("job", "kept"), ("mendjob", "changes")] {
+        let words = [done, "none", "long", "sheet", "job"];
+        expected.extend(words.map(|word| (name, CameTo::Word(word.to_owned()))));
+    }
+    for call in all_calls().filter(|call| !matches!(call, Call::Job | Call::MendJob)) {
         let answers = refusals(call).iter().chain(&[0]);
         expected.extend(answers.map(|answer| (call.name(), CameTo::Answer(*answer))));
     }
@@ -56,7 +63,7 @@ fn every_call_meets_every_answer_that_it_can_give_and_no_other() {
 #[test]
 fn of_two_faults_the_one_that_is_checked_first_is_answered() {
     let script = fixed();
-    for call in CALLS {
+    for call in all_calls() {
         let refusals = refusals(call);
         let in_order = ORDER.iter().filter(|answer| refusals.contains(answer));
         assert!(in_order.eq(refusals), "{call:?}");
@@ -92,6 +99,62 @@ fn rosters_drawn_on_w_get_what_the_request_says() {
     }
     let whole = lines[3 + 9..].iter().filter(|line| *line == "report\t0\t0").count();
     assert_eq!(whole, 8);
+}
+
+#[test]
+fn rosters_mended_on_w_print_what_was_worked_by_hand() {
+    let lines = printed_by(fixed(), "rosters mended on W");
+    let mends: Vec<&String> = lines.iter().filter(|line| line.starts_with("mend\t")).collect();
+    assert_eq!(mends.len(), MENDED_CASES.len());
+    for (line, worked) in mends.into_iter().zip(MENDED_CASES) {
+        let expected = match worked.found {
+            Some((made, roster)) => format!("mend\t0\t{made}\troster{}", fields(&roster)),
+            None => "mend\t11\t0".to_owned(),
+        };
+        assert_eq!(*line, expected);
+    }
+}
+
+#[test]
+fn the_work_table_is_fixed_by_7_and_not_by_k() {
+    let answers = answers_by(fixed(), "a work table for fewer changes");
+    assert_eq!(answers, [2, 2, 2, 2, 2, 2, 2, 0, 2]);
+}
+
+/// Every proposal in these cases is checked with its number of changes, and with one more.
+#[test]
+fn the_checker_says_yes_to_every_proposal_and_no_to_one_change_more() {
+    let mut proposals = 0;
+    for name in ["rosters mended on W", "every roster mended on W", "rosters mended as K1 to K10"] {
+        let mut lines = printed_by(fixed(), name).into_iter();
+        while let Some(line) = lines.next() {
+            assert!(line.starts_with("mend\t"), "{line}");
+            if line.starts_with("mend\t0\t") {
+                let says = [lines.next(), lines.next()].map(Option::unwrap);
+                assert_eq!(says, ["check\t0\t1", "check\t0\t0"]);
+                proposals += 1;
+            }
+        }
+    }
+    assert!(proposals > 50, "{proposals}");
+}
+
+#[test]
+fn random_mends_meet_every_answer_and_every_number_of_changes() {
+    let mut cases = Cases::only("mends", 3, 6_000).unwrap();
+    let mut script = Script::default();
+    while cases.add_next(&mut script) {}
+    let begins = |begin: &str| script.printed().filter(|p| p.line.starts_with(begin)).count();
+    for answer in [1, 2, 3, 4, 7, 11] {
+        assert!(begins(&format!("mend\t{answer}\t0")) > 10, "mend, answer {answer}");
+    }
+    for made in 0..=7 {
+        assert!(begins(&format!("mend\t0\t{made}\t")) > 5, "{made} changes");
+    }
+    for answer in [1, 2, 3, 4, 7] {
+        assert!(begins(&format!("check\t{answer}\t0")) > 10, "check, answer {answer}");
+    }
+    assert!(begins("check\t0\t0") > 500 && begins("check\t0\t1") > 500);
 }
 
 #[test]

@@ -5,6 +5,7 @@ use lib.Seq.{length-take-le}
 use borrow.Author.Tests.{not-true, not-false}
 use Rattle.sheet.specs.Reading.{readOf}
 use Rattle.job.specs.Output.{sheetLine, jobLine}
+use Rattle.job.specs.Inner.{program}
 use Rattle.job.proofs.Showing.{wrote-is}
 use Rattle.job.proofs.Reading.{sheet-wrong, job-missing, job-there, read-right, rest-is}
 use borrow.Author.Needs.{needs}
@@ -40,9 +41,8 @@ same-length-3 c = search needs
 
 returns : tie.Need-returns
 unfolding sheetLine
-returns c =
-    let a = c .before .before .before .before .before .before .before .before .before .before .before .before .before .before .before .before .before .before .before .before .args in
-    wrote-is _ _ _ _ _ _ (sheet-wrong (a .input .now) _ _ _ _ _ _ _ _ _ (c .before .before .before .before .before .before .before .before .before .before .before .read-sheet .ensures ∙ ap (λ (x : List ℕ). readOf x (a .targets .now) (a .costs .now)) (c .before .before .before .before .before .before .before .before .before .before .before .before .before .before .before .cut-at .ensures .sheet-is)) (λ z. c .before .before .before .before .before .if1 .taken (c .before .before .before .before .before .before .number .ensures ∙ z))) (c .before .before .put-line .ensures)
+returns c = let a = c .before .before .before .before .before .before .before .before .before .before .before .before .before .before .before .before .before .before .before .before .args in
+    wrote-is _ _ _ _ _ _ (sheet-wrong (program (a .task)) (a .input .now) _ _ _ _ _ _ _ _ _ (c .before .before .before .before .before .before .before .before .before .before .before .read-sheet .ensures ∙ ap (λ (x : List ℕ). readOf x (a .targets .now) (a .costs .now)) (c .before .before .before .before .before .before .before .before .before .before .before .before .before .before .before .cut-at .ensures .sheet-is)) (λ z. c .before .before .before .before .before .if1 .taken (c .before .before .before .before .before .before .number .ensures ∙ z))) (c .before .before .put-line .ensures)
 
 slice-aggregate-put-line-2 : tie.Need-slice-aggregate-put-line-2
 slice-aggregate-put-line-2 c = search needs
@@ -61,9 +61,8 @@ same-length-6 c = search needs
 
 returns-2 : tie.Need-returns-2
 unfolding jobLine
-returns-2 c =
-    let a = c .before .before .before .before .before .before .before .before .before .before .before .before .before .before .before .before .before .before .before .before .before .before .args in
-    wrote-is _ _ _ _ _ _ (job-missing (a .input .now) _ _ _ _ _ _ _ _ _ (c .before .before .before .before .before .before .before .before .before .before .before .before .before .read-sheet .ensures ∙ ap (λ (x : List ℕ). readOf x (a .targets .now) (a .costs .now)) (c .before .before .before .before .before .before .before .before .before .before .before .before .before .before .before .before .before .cut-at .ensures .sheet-is)) (sym (c .before .before .before .before .before .before .before .before .number .ensures) ∙ c .before .before .before .before .before .before .before .if1 .left) (sym (c .before .before .before .before .before .before .before .before .before .before .before .before .before .before .before .before .before .cut-at .ensures .finds) ∙ not-true _ (c .before .before .before .before .before .if2 .taken))) (c .before .before .put-line2 .ensures)
+returns-2 c = let a = c .before .before .before .before .before .before .before .before .before .before .before .before .before .before .before .before .before .before .before .before .before .before .args in
+    wrote-is _ _ _ _ _ _ (job-missing (program (a .task)) (a .input .now) _ _ _ _ _ _ _ _ _ (c .before .before .before .before .before .before .before .before .before .before .before .before .before .read-sheet .ensures ∙ ap (λ (x : List ℕ). readOf x (a .targets .now) (a .costs .now)) (c .before .before .before .before .before .before .before .before .before .before .before .before .before .before .before .before .before .cut-at .ensures .sheet-is)) (sym (c .before .before .before .before .before .before .before .before .number .ensures) ∙ c .before .before .before .before .before .before .before .if1 .left) (sym (c .before .before .before .before .before .before .before .before .before .before .before .before .before .before .before .before .before .cut-at .ensures .finds) ∙ not-true _ (c .before .before .before .before .before .if2 .taken))) (c .before .before .put-line2 .ensures)
 
 sub-plan : tie.Need-sub-plan
 sub-plan c = search needs
@@ -87,9 +86,8 @@ same-length-9 : tie.Need-same-length-9
 same-length-9 c = search needs
 
 returns-3 : tie.Need-returns-3
-returns-3 c =
-    let a = c .before .before .before .before .before .before .before .before .before .before .before .before .before .before .before .before .before .before .before .before .before .before .before .before .args in
-    wrote-is _ _ _ _ _ _ (job-there (a .input .now) _ _ _ _ _ _ _ _ _ (c .before .before .before .before .before .before .before .before .before .before .before .before .before .before .before .read-sheet .ensures ∙ ap (λ (x : List ℕ). readOf x (a .targets .now) (a .costs .now)) (c .before .before .before .before .before .before .before .before .before .before .before .before .before .before .before .before .before .before .before .cut-at .ensures .sheet-is)) _ (rest-is (a .input .now) (c .before .before .before .before .before .before .before .before .before .before .before .before .before .before .before .before .before .before .before .cut-at .result .job) ∙ c .before .before .before .before .before .before .before .before .before .before .before .before .before .before .before .before .before .before .before .cut-at .ensures .job-is) (sym (c .before .before .before .before .before .before .before .before .before .before .number .ensures) ∙ c .before .before .before .before .before .before .before .before .before .if1 .left) (sym (c .before .before .before .before .before .before .before .before .before .before .before .before .before .before .before .before .before .before .before .cut-at .ensures .finds) ∙ not-false _ (c .before .before .before .before .before .before .before .if2 .left))) (c .before .before .plan .ensures)
+returns-3 c = let a = c .before .before .before .before .before .before .before .before .before .before .before .before .before .before .before .before .before .before .before .before .before .before .before .before .args in
+    wrote-is _ _ _ _ _ _ (job-there (program (a .task)) (a .input .now) _ _ _ _ _ _ _ _ _ (c .before .before .before .before .before .before .before .before .before .before .before .before .before .before .before .read-sheet .ensures ∙ ap (λ (x : List ℕ). readOf x (a .targets .now) (a .costs .now)) (c .before .before .before .before .before .before .before .before .before .before .before .before .before .before .before .before .before .before .before .cut-at .ensures .sheet-is)) _ (rest-is (a .input .now) (c .before .before .before .before .before .before .before .before .before .before .before .before .before .before .before .before .before .before .before .cut-at .result .job) ∙ c .before .before .before .before .before .before .before .before .before .before .before .before .before .before .before .before .before .before .before .cut-at .ensures .job-is) (sym (c .before .before .before .before .before .before .before .before .before .before .number .ensures) ∙ c .before .before .before .before .before .before .before .before .before .if1 .left) (sym (c .before .before .before .before .before .before .before .before .before .before .before .before .before .before .before .before .before .before .before .cut-at .ensures .finds) ∙ not-false _ (c .before .before .before .before .before .before .before .if2 .left))) (c .before .before .plan .ensures)
 
 pub job-in-spec : {M : Type 1} → statement M
 job-in-spec =

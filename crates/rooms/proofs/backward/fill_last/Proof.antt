@@ -46,7 +46,7 @@ same-length-2 : tie.Need-same-length-2
 same-length-2 c = search needs
 
 returns : tie.Need-returns
-returns c = laid-settled _ _ _ (c .before .before .before .before .before .before .before .before .before .before .before .before .before .pre .0) (c .before .before .before .before .before .before .before .before .before .before .before .before .before .pre .3) (c .before .before .before .before .before .before .before .before .before .ends .kept .1 .1 .0) (c .before .before .before .before .before .before .before .before .before .ends .ensures) (c .before .before .before .before .settle .kept .1 .1 .0) (c .before .before .before .before .settle .ensures)
+returns c = laid-settled _ _ _ (c .before .before .before .before .before .before .before .before .before .before .before .before .before .pre .0) (c .before .before .before .before .before .before .before .before .before .before .before .before .before .pre .2) (c .before .before .before .before .before .before .before .before .before .ends .kept .1 .1 .0) (c .before .before .before .before .before .before .before .before .before .ends .ensures) (c .before .before .before .before .settle .kept .1 .1 .0) (c .before .before .before .before .settle .ensures)
 
 pub fill-last-spec : {M : Type 1} → statement M
 fill-last-spec =

@@ -30,7 +30,7 @@ slice-aggregate-fill-last : tie.Need-slice-aggregate-fill-last Inv-loop μ-loop
 slice-aggregate-fill-last c = search needs
 
 fill-last-requires : tie.Need-fill-last-requires Inv-loop μ-loop
-fill-last-requires c κs = let p = c .before .before .before .before .before .before .before .before .before .pre .0 in (p .few-states, refl, omega (arith, p .few-places), omega (arith, p .all-work))
+fill-last-requires c κs = let p = c .before .before .before .before .before .before .before .before .before .pre .0 in (p .few-states, refl, omega (arith, p .all-work))
 
 loop-holds : tie.Need-loop-holds Inv-loop μ-loop
 unfolding top

@@ -1,0 +1,3 @@
+pub mod Mending
+pub mod Outcomes
+pub mod Worked
