@@ -43,7 +43,7 @@ module _ {a : Arcs} {net : Net} {ds ms work ls : List ℕ} {accepting k : ℕ} (
       → roomAt work i g t ≡ capped (before ls i) (nearRoom (frame net (a .states) (a .values) accepting) (drop i ds) (drop i (places ms ls)) g t)
   unfolding nearLayer
   layer-means i zero t h l ht = omega (arith, near-zero (frame net (a .states) (a .values) accepting) (drop i ds) (drop i (places ms ls)) t)
-  layer-means i (suc j) t h l ht = needed-rooms _ _ _ (m .rooms .right i j t (omega arith) h (omega arith) ht)
+  layer-means i (suc j) t h l ht = needed-rooms _ _ _ (m .rooms .right i j t h (omega arith) ht)
 
   way-left : (q s g i : ℕ) → i ≤ length ms → g ≤ suc k → q < a .states → s < roomAt work i g q
       → Way (record { arcs = a; accepting = accepting }) q s (drop i (places ms ls)) (drop i ds) g

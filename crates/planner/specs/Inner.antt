@@ -32,7 +32,7 @@ pub record Meant (a : Arcs) (net : Net) (ds ms work ls : List ℕ) (accepting k 
   pub limits : length ls ≡ length ms
   pub drawn : length ds ≡ length ms
   pub arcs : Same a (a .values) net
-  pub rooms : NearLayers (frame net (a .states) (a .values) accepting) ds ms ls k 0 work
+  pub rooms : NearLayers (frame net (a .states) (a .values) accepting) ds ms ls k work
 
 -- the walk writes the first roster with so many changes or fewer
 pub record Walks (qs vs : ℕ) (ts cs : List ℕ) (start spent : ℕ) (ms ds work : List ℕ) (most : ℕ) (is : List ℕ) : Type 0 where

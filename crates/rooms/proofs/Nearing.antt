@@ -233,7 +233,7 @@ module _ (f : Frame) (ds ms ls : List ℕ) where
       fewest-found k h n =
           let m : min j k ≡ j = omega arith in
           record {
-            rooms = record { right = λ l o q u v w hq. y .0 .right l o q v (omega arith) (λ z. omega arith) hq };
+            rooms = record { right = λ l o q v w hq. y .0 .right l o q v (omega arith) (λ z. omega arith) hq };
             beside = rw m (beside-on (s .beside j (omega arith)) (y .1));
             low = omega arith;
             none = s .none;
@@ -242,7 +242,7 @@ module _ (f : Frame) (ds ms ls : List ℕ) where
 
     pub fewest-missing : {was work : List ℕ} {j : ℕ} (k : ℕ) → j ≤ k + 1 → k < j → Searched start spent was j work → Fewest f ds ms ls start spent k was work j
     fewest-missing {j = j} k h m s = record {
-      rooms = record { right = λ l o q u v w hq. s .rooms .right l o q v (omega arith) (λ z. absurd (omega arith)) hq };
+      rooms = record { right = λ l o q v w hq. s .rooms .right l o q v (omega arith) (λ z. absurd (omega arith)) hq };
       beside = s .beside (min j k) (omega arith);
       low = omega arith;
       none = s .none;

@@ -92,7 +92,7 @@ module _ (qs vs : ℕ) (ts cs : List ℕ) (accepting start spent : ℕ) (ms ls d
   nears-one a b x e f s r t = ext-getD 0 a b (e ∙ sym f) (λ z h. at z (omega (arith, s .all-rows)))
     where
       needs : (l j q : ℕ) → l ≤ length ms → j ≤ min x k → q < qs → getD a (rowFor l j * 64 + q) 0 ≡ getD b (rowFor l j * 64 + q) 0
-      needs l j q h m n = r .fewest .rooms .right l j q (omega arith) h m n ∙ (ap need (rooms-one r t l (suc j) q) ∙ sym (t .fewest .rooms .right l j q (omega arith) h m n))
+      needs l j q h m n = r .fewest .rooms .right l j q h m n ∙ (ap need (rooms-one r t l (suc j) q) ∙ sym (t .fewest .rooms .right l j q h m n))
 
       go : (l j q : ℕ) → l ≤ length ms → j ≤ 7 → q < 64 → Dec (j ≤ min x k) → Dec (q < qs) → getD a (rowFor l j * 64 + q) 0 ≡ getD b (rowFor l j * 64 + q) 0
       go l j q h u v (yes m) (yes n) = needs l j q h m n

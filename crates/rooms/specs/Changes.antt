@@ -32,9 +32,9 @@ nearLayer f ds ms ls i g q = capped (before ls i) (nearRoom f (drop i ds) (drop 
 abbrev pub rowFor : ℕ → ℕ → ℕ
 rowFor i j = i * (mostChanges + 1) + j
 
--- the rows of the work table for 0 to k changes, from layer i on: the needs of the layers
-pub record NearLayers (f : Frame) (ds ms ls : List ℕ) (k i : ℕ) (work : List ℕ) : Type 0 where
-  pub right : (l j q : ℕ) → i ≤ l → l ≤ length ms → j ≤ k → q < f .states
+-- the rows of the work table for 0 to k changes: the needs of the layers
+pub record NearLayers (f : Frame) (ds ms ls : List ℕ) (k : ℕ) (work : List ℕ) : Type 0 where
+  pub right : (l j q : ℕ) → l ≤ length ms → j ≤ k → q < f .states
       → getD work (rowFor l j * mostStates + q) 0 ≡ need (nearLayer f ds ms ls l (suc j) q)
 
 -- those that are there while they are filled: all for fewer than j changes, and those for j from layer i on
@@ -75,7 +75,7 @@ pub record PlanSizes (qs vs : ℕ) (ts cs ms ls ds : List ℕ) (k : ℕ) (work :
 
 -- the fewest changes that the start has room with, more than k if it has none with k: the needs of all layers for 0 changes up to those, all else as it was
 pub record Fewest (f : Frame) (ds ms ls : List ℕ) (start spent k : ℕ) (work work′ : List ℕ) (made : ℕ) : Type 0 where
-  pub rooms : NearLayers f ds ms ls (min made k) 0 work′
+  pub rooms : NearLayers f ds ms ls (min made k) work′
   pub beside : Beside (f .states) (min made k) work work′
   pub low : made ≤ suc k
   pub none : (o : ℕ) → o < made → nearLayer f ds ms ls 0 (suc o) start ≤ spent
