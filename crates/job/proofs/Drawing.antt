@@ -9,9 +9,7 @@ use types.Run.{OneOf}
 use denote.Enum.Declared.{tagOf}
 use lib.ListN.{length, take, drop, set, length-set, drop-of-length-le}
 use lib.Seq.{take-suc-set, set-split}
-use borrow.Author.Tests.{lt-ltb}
 use Rattle.meaning.proofs.Members.{Below}
-use Rattle.rules.specs.Report.{valuesRight}
 use Rattle.rules.proofs.Checks.{never}
 use Rattle.text.specs.Numbers.{readNumber, readField, NumberAt}
 use Rattle.text.specs.Lines.{Judged, right, wrong, rest, strip, onField, onJudged, ending, sealed, close, numberFault}
@@ -117,8 +115,3 @@ values-in v (suc (suc n)) s w e =
 pub drawn-in : (v n : ℕ) (l w : List ℕ) → readDrawn n v l ≡ right w → (length w ≡ n) × Below (suc (v - 1)) w
 unfolding readDrawn
 drawn-in v n l w e = let (s, e0, f0) = onStrip-right (strip drawnWord l) (readValues v n) w e in values-in v n s w f0
-
-pub below-right : (v : ℕ) (w : List ℕ) → Below v w → valuesRight v w ≡ true
-unfolding valuesRight
-below-right v [] b = refl
-below-right v (x ∷ w) b = rw (lt-ltb x v (b .0)) (below-right v w (b .1))

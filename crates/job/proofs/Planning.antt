@@ -13,16 +13,15 @@ use Rattle.meaning.specs.Bounds.{top}
 use Rattle.rules.specs.Checks.{sizeRight, sizesRight, rulesRight, masksRight}
 use Rattle.rules.proofs.Checks.{both, Size, size-of, sizes-last}
 use Rattle.text.specs.Numbers.{readNumber}
-use Rattle.text.specs.Lines.{right, wrong, strip, onStrip, lines, LineAt}
-use Rattle.text.specs.declared.lines.Fault.the-variants.{Form}
+use Rattle.text.specs.Lines.{right, wrong, strip, lines, LineAt}
 use Rattle.text.proofs.Decimals.{number-read}
 use Rattle.text.proofs.Judging.{onStrip-right, onField-right, close-right}
 use Rattle.text.specs.declared.lines.Fault.{Fault}
-use Rattle.job.specs.Input.{mostDays, mostLines, daysWord, readDays, days, wrongLine, readDecisions}
+use Rattle.job.specs.Input.{mostDays, mostLines, daysWord, readCount, readDays, days, wrongLine, readDecisions}
 use Rattle.job.specs.Output.{jobLine, verdictText}
 use Rattle.job.specs.Job.{asked, daysDone, doneText, rota}
 use Rattle.job.specs.Mend.{beforeDrawn, fromDrawn, readWish, wishText, mendText, mend}
-use Rattle.job.specs.Inner.{countView, readCount, Took, program}
+use Rattle.job.specs.Inner.{countView, Took, program}
 use Rattle.job.specs.declared.asks.Count.{Count}
 use Rattle.job.specs.declared.asks.Count.the-variants as the-count
 use Rattle.job.specs.declared.plan.Task.{Task}
@@ -115,21 +114,23 @@ first-of n m x xs h e = ap (take n) e ∙ take-replicate n m x h
 pub task-is : (t u : Task) (r : Rules) (s n : ℕ) (ls : List (List ℕ)) → t ≡ u → program u r s n ls ≡ program t r s n ls
 task-is t u r s n ls e = ap (λ (x : Task). program x r s n ls) (sym e)
 
+-- a number that is read is in range
+pub count-range : (w : List ℕ) (lo hi : ℕ) (l : List ℕ) (n : ℕ) → readCount w lo hi l ≡ right n → (lo ≤ n) × (n ≤ hi)
+unfolding readCount
+count-range w lo hi l n x =
+    let (s, e0, f0) = onStrip-right (strip w l) _ n x in
+    let (m, t, e1, f1) = onField-right (readNumber lo hi s) _ n f0 in
+    let r = number-read lo hi s m t e1 in
+    let c = close-right true m n t f1 in
+    (omega (arith, r .low, c .2), omega (arith, r .high, c .2))
+
 -- the days line
-pub days-is : (l : List ℕ) → readCount (100 ∷ 97 ∷ 121 ∷ 115 ∷ []) 1 mostDays l ≡ readDays l
-unfolding readCount readDays
+pub days-is : (l : List ℕ) → readCount daysWord 1 mostDays l ≡ readDays l
+unfolding readDays
 days-is l = refl
 
--- n is in range
 pub days-range : (l : List ℕ) (d : Count) (n : ℕ) → countView d ≡ readDays l → d ≡ the-count.Right n → (1 ≤ n) × (n ≤ mostDays)
-unfolding readDays
-days-range l d n e k =
-    let x : onStrip (strip daysWord l) _ (wrong Form) ≡ right n = sym e ∙ ap countView k in
-    let (s, e0, f0) = onStrip-right (strip daysWord l) _ n x in
-    let (m, t, e1, f1) = onField-right (readNumber 1 mostDays s) _ n f0 in
-    let w = number-read 1 mostDays s m t e1 in
-    let c = close-right true m n t f1 in
-    (omega (arith, w .low, c .2), omega (arith, w .high, c .2))
+days-range l d n e k = count-range daysWord 1 mostDays l n (days-is l ∙ (sym e ∙ ap countView k))
 
 -- the job by its first line
 module _ (done : ℕ → List (List ℕ) → List ℕ) (text : List ℕ) where

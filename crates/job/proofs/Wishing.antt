@@ -10,26 +10,26 @@ use Rattle.meaning.specs.Bounds.{mostChanges}
 use Rattle.meaning.specs.Lists.{some}
 use Rattle.meaning.specs.Meaning.{Rules, Place}
 use Rattle.meaning.proofs.Members.{Below}
-use Rattle.text.specs.Numbers.{readNumber}
-use Rattle.text.specs.Lines.{Judged, right, wrong, strip, onJudged, sealed, lines, LineAt}
+use Rattle.text.specs.Lines.{Judged, right, wrong, onJudged, sealed, lines, LineAt}
 use Rattle.text.specs.declared.lines.Fault.{Fault}
 use Rattle.text.specs.declared.lines.End.{End}
 use Rattle.text.specs.declared.lines.End.the-variants.{Fine, Faulty}
-use Rattle.text.proofs.Decimals.{number-read}
-use Rattle.text.proofs.Judging.{onField-right, close-right, onStrip-right}
+use Rattle.job.specs.Input.{readCount}
 use Rattle.job.specs.Output.{jobLine}
 use Rattle.job.specs.Mend.{mostWord, readDrawn, readMost, wish, wrongWish, readLast, readWish, wishText}
 use Rattle.job.specs.Mend.{Wish as WishSpec}
-use Rattle.job.specs.Inner.{countView, readCount, wishView, LastAt, Wished}
+use Rattle.job.specs.Inner.{countView, wishView, LastAt, Wished}
 use Rattle.job.specs.declared.asks.Count.{Count}
 use Rattle.job.specs.declared.asks.Count.the-variants as the-count
 use Rattle.job.specs.declared.wish.Wish.{Wish}
 use Rattle.job.specs.declared.wish.Wish.the-variants as the-wish
 use Rattle.job.proofs.Taking.{some-line}
-use Rattle.job.proofs.Drawing.{drawn-in, below-right}
+use Rattle.rules.proofs.Walk.{below-right}
+use Rattle.job.proofs.Planning.{count-range}
+use Rattle.job.proofs.Drawing.{drawn-in}
 
-pub most-is : (l : List ℕ) → readCount (109 ∷ 111 ∷ 115 ∷ 116 ∷ []) 0 mostChanges l ≡ readMost l
-unfolding readCount readMost
+pub most-is : (l : List ℕ) → readCount mostWord 0 mostChanges l ≡ readMost l
+unfolding readMost
 most-is l = refl
 
 -- the most line, and what stands behind it
@@ -79,11 +79,7 @@ module _ (r : Rules) (s : ℕ) (ps : List Place) (u : Wish) (w : List ℕ) (x : 
 
 -- a wish that is read is in range, and the number of a wrong line is that of one of the lines or the next
 most-range : (l : List ℕ) (k : ℕ) → readMost l ≡ right k → k ≤ mostChanges
-unfolding readMost
-most-range l k e =
-    let (s, e0, f0) = onStrip-right (strip mostWord l) _ k e in
-    let (m, t, e1, f1) = onField-right (readNumber 0 mostChanges s) _ k f0 in
-    omega (arith, number-read 0 mostChanges s m t e1 .high, close-right true m k t f1 .2)
+most-range l k e = count-range mostWord 0 mostChanges l k (most-is l ∙ e) .1
 
 abbrev pub WishIn : ℕ → ℕ → ℕ → WishSpec → Type 0
 WishIn n v k (wish w j) = (length w ≡ n) × Below (suc (v - 1)) w × (j ≤ mostChanges)

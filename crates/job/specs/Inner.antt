@@ -1,17 +1,14 @@
 -- What only the inner functions' contracts cite.
 use mathlib.Core.Path.{_≡_}
 use mathlib.Core.Bool.{Bool, true}
-use mathlib.Core.List.{List, [], _∷_, _++_}
+use mathlib.Core.List.{List, [], _∷_}
 use Prim.Native.Nat.{ℕ, _+_, _≤_, _<_}
 use lib.ListN.{length, take, drop}
 use Rattle.meaning.specs.Meaning.{Decision, Keep, Limit, places, decides}
 use Rattle.meaning.specs.Bounds.{mostChanges}
 use Rattle.rules.specs.Checks.{sizesRight, rulesRight, masksRight}
 use Rattle.rules.specs.Report.{valuesRight}
-use Rattle.text.specs.Bytes.{tab}
-use Rattle.text.specs.Numbers.{readNumber}
-use Rattle.text.specs.Lines.{Judged, right, wrong, strip, onStrip, onField, close, lines}
-use Rattle.text.specs.declared.lines.Fault.the-variants.{Form}
+use Rattle.text.specs.Lines.{Judged, right, wrong, lines}
 use Rattle.job.specs.Input.{mostDays, before, parted, after, Job, days, wrongLine}
 use Rattle.job.specs.Job.{Program, rota}
 use Rattle.job.specs.Mend.{beforeDrawn, fromDrawn, wish, wrongWish, readLast, mend}
@@ -39,10 +36,6 @@ pub record CutAt (s : List ℕ) (found : Bool) (sheet job : ℕ) : Type 0 where
 abbrev pub countView : Count → Judged ℕ
 countView (the-count.Right n) = right n
 countView (the-count.Wrong f) = wrong f
-
--- a line of a word and a number: the days line and the most line
-unfoldable pub readCount : List ℕ → ℕ → ℕ → List ℕ → Judged ℕ
-readCount w lo hi l = onStrip (strip (w ++ tab ∷ []) l) (λ s. onField (readNumber lo hi s) (λ n s. close true n s)) (wrong Form)
 
 abbrev pub askedView : Asked → Judged Decision
 askedView (the-asked.Keep i m) = right (Keep i (m .0))

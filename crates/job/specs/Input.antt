@@ -49,9 +49,13 @@ unfoldable pub after : Bool → List ℕ → List ℕ
 after start [] = []
 after start (b ∷ s) = cond (start && eqb b feed) s (after (eqb b feed) s)
 
+-- a line of a word and a number in range
+unfoldable pub readCount : List ℕ → ℕ → ℕ → List ℕ → Judged ℕ
+readCount w lo hi l = onStrip (strip w l) (λ s. onField (readNumber lo hi s) (λ n s. close true n s)) (wrong Form)
+
 -- the first job line: `days` and n
 unfoldable pub readDays : List ℕ → Judged ℕ
-readDays l = onStrip (strip daysWord l) (λ s. onField (readNumber 1 mostDays s) (λ n s. close true n s)) (wrong Form)
+readDays l = readCount daysWord 1 mostDays l
 
 -- a later one: `keep` place mask, or `limit` place cost
 unfoldable pub readKeep : ℕ → ℕ → List ℕ → Judged Decision

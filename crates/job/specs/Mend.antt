@@ -12,7 +12,7 @@ use Rattle.text.specs.Bytes.{tab, feed}
 use Rattle.text.specs.Numbers.{decimal, readNumber, readField}
 use Rattle.text.specs.Lines.{Judged, right, wrong, strip, onStrip, onField, close, onJudged}
 use Rattle.text.specs.declared.lines.Fault.the-variants.{Form}
-use Rattle.job.specs.Input.{mostLines, Job, days, wrongLine, readDecisions}
+use Rattle.job.specs.Input.{mostLines, readCount, Job, days, wrongLine, readDecisions}
 use Rattle.job.specs.Output.{noneText, jobLine}
 use Rattle.job.specs.Job.{Program, programText, asked}
 
@@ -33,7 +33,7 @@ unfoldable pub readDrawn : ℕ → ℕ → List ℕ → Judged (List ℕ)
 readDrawn n v l = onStrip (strip drawnWord l) (readValues v n) (wrong Form)
 
 unfoldable pub readMost : List ℕ → Judged ℕ
-readMost l = onStrip (strip mostWord l) (λ s. onField (readNumber 0 mostChanges s) (λ k s. close true k s)) (wrong Form)
+readMost l = readCount mostWord 0 mostChanges l
 
 -- the lines before the first that begins with the word `drawn`, and those from it on
 unfoldable pub isDrawn : List ℕ → Bool

@@ -1,13 +1,14 @@
 // The lines of a job, each judged by itself.
 ghost use mathlib.Core.Path.{_≡_};
 ghost use mathlib.Core.Bool.{true};
+ghost use mathlib.Core.List.{[], _∷_, _++_};
 ghost use Prim.Native.Nat.{_≤_};
 ghost use lib.ListN.{drop};
 ghost use Rattle.meaning.specs.Bounds.{mostValues};
 ghost use Rattle.meaning.specs.Lists.{all};
-ghost use Rattle.text.specs.Bytes.{isSmall};
-ghost use Rattle.job.specs.Input.{mostDays, readKeep, readLimit, readDecision};
-ghost use Rattle.job.specs.Inner.{countView, readCount, AskedAt};
+ghost use Rattle.text.specs.Bytes.{tab, isSmall};
+ghost use Rattle.job.specs.Input.{mostDays, readCount, readKeep, readLimit, readDecision};
+ghost use Rattle.job.specs.Inner.{countView, AskedAt};
 use kinds::Mask;
 use text::bytes::begins;
 use text::lines::End;
@@ -37,7 +38,7 @@ pub(crate) enum Asked {
 // A line of that word and a number in range.
 pub(crate) fn count_line(line: &[u8], word: &[u8], low: u32, high: u32) -> Count
     requires { ⌜ all isSmall (now word) ≡ true ⌝ }
-    ensures { λ r. ⌜ countView r ≡ readCount (now (word .entry)) low high (now (line .entry)) ⌝ }
+    ensures { λ r. ⌜ countView r ≡ readCount (now (word .entry) ++ tab ∷ []) low high (now (line .entry)) ⌝ }
 {
     if !begins(line, word) {
         return Count::Wrong(Fault::Form);

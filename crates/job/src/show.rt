@@ -1,13 +1,8 @@
 // What a filter tells, printed.
-ghost use mathlib.Core.Path.{_≡_};
-ghost use mathlib.Core.Bool.{true};
-ghost use Prim.Native.Nat.{_≤_};
-ghost use lib.ListN.{length};
 ghost use Rattle.meaning.specs.Meaning.{rulesOf, places, verdictOf};
-ghost use Rattle.rules.specs.Checks.{sizesRight, rulesRight, masksRight};
 ghost use Rattle.text.specs.Writing.{Wrote};
-ghost use Rattle.job.specs.Input.{mostDays};
 ghost use Rattle.job.specs.Output.{verdictText};
+ghost use Rattle.job.specs.Inner.{Ready};
 use crate::asks::MOST_DAYS;
 use crate::print::put_line;
 use crate::print::put_masks;
@@ -32,7 +27,7 @@ pub(crate) fn show(
     limits: &[u32],
     output: &mut [u8],
 ) -> usize
-    requires { ⌜ (sizesRight days (size .states) (size .values) (size .start .0) ≡ true) × (rulesRight (size .states) (size .values) (size .start .0) (now targets) (now costs) accepting ≡ true) × (masksRight (size .values) (now masks) ≡ true) × (length (now masks) ≡ days) × (length (now limits) ≡ days) × (days ≤ mostDays) ⌝ }
+    requires { ⌜ Ready days (size .states) (size .values) (size .start .0) (now targets) (now costs) accepting (now masks) (now limits) ⌝ }
     ensures { λ r. ⌜ Wrote (now (output .entry)) 0 (verdictText (verdictOf (rulesOf (size .states) (size .values) (now (targets .entry)) (now (costs .entry)) accepting) (size .start .0) 0 (places (now (masks .entry)) (now (limits .entry))))) (now (output .exit)) r ⌝ }
 {
     let wide = (days + 1) * bounds::MOST_STATES;

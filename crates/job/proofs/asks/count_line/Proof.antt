@@ -2,7 +2,7 @@ use mathlib.Core.Path.{refl, sym, ap, _∙_}
 use Rattle.rules.proofs.Checks.{test-failed, test-passed}
 use Rattle.text.specs.Lines.{wrong}
 use Rattle.text.proofs.Judging.{begins-true, begins-false, strip-right, strip-wrong, number-right, number-wrong, sealed-is}
-use Rattle.job.specs.Inner.{readCount}
+use Rattle.job.specs.Input.{readCount}
 use borrow.Author.Needs.{needs}
 use Rattle.job.proofs.asks.count_line.Statement.{statement}
 use Rattle.job.proofs.asks.count_line.Tie as tie

@@ -55,14 +55,14 @@ show-requires c κs = let p = c .before .before .before .before .before .before 
     let a = c .before .before .before .before .before .before .before .before .before .before .before .before .before .before .before .before .before .before .before .args in
     let s = right-size (a .size .states) (a .size .values) (a .size .start .0) (a .targets .now) (a .costs .now) (a .accepting) (p .0) in
     let full = first-of (a .days) mostDays (2 ^ a .size .values - 1) _ (p .2) (ap (λ (x : ℕ). replicate mostDays x) (full-is _ _ (s .few-values) (c .before .before .before .before .before .before .before .before .before .before .before .before .before .before .full .ensures))) in
-    let tops = first-of (a .days) mostDays top _ (p .2) refl in (
-      right-sizes (a .days) (a .size .states) (a .size .values) (a .size .start .0) (a .targets .now) (a .costs .now) (a .accepting) (p .1) (p .2) (p .0),
-      p .0,
-      carried-right (rulesOf (a .size .states) (a .size .values) (a .targets .now) (a .costs .now) (a .accepting)) 0 (a .days) (lines (drop (a .from) (a .text .now))) _ _ _ _ (c .before .before .before .before .before .before .before .before .before .take-lines .result) full tops (c .before .before .before .before .before .before .before .before .before .take-lines .ensures) (c .before .before .before .enum-told .given .1) (c .before .before .before .before .before .before .before .before .masks .given) (c .before .before .before .before .before .before .limits .given),
-      c .before .before .before .before .before .before .before .before .masks .given ∙ length-of (a .days) _ _ full,
-      c .before .before .before .before .before .before .limits .given ∙ length-of (a .days) _ _ tops,
-      p .2,
-    )
+    let tops = first-of (a .days) mostDays top _ (p .2) refl in record {
+      sizes = right-sizes (a .days) (a .size .states) (a .size .values) (a .size .start .0) (a .targets .now) (a .costs .now) (a .accepting) (p .1) (p .2) (p .0);
+      rules = p .0;
+      masks = carried-right (rulesOf (a .size .states) (a .size .values) (a .targets .now) (a .costs .now) (a .accepting)) 0 (a .days) (lines (drop (a .from) (a .text .now))) _ _ _ _ (c .before .before .before .before .before .before .before .before .before .take-lines .result) full tops (c .before .before .before .before .before .before .before .before .before .take-lines .ensures) (c .before .before .before .enum-told .given .1) (c .before .before .before .before .before .before .before .before .masks .given) (c .before .before .before .before .before .before .limits .given);
+      masks-long = c .before .before .before .before .before .before .before .before .masks .given ∙ length-of (a .days) _ _ full;
+      limits-long = c .before .before .before .before .before .before .limits .given ∙ length-of (a .days) _ _ tops;
+      few = p .2;
+    }
 
 same-length : tie.Need-same-length
 same-length c = search needs

@@ -9,22 +9,22 @@ use Rattle.job.proofs.show.show.Statement.{statement}
 use Rattle.job.proofs.show.show.Tie as tie
 
 add-wide : tie.Need-add-wide
-add-wide c = omega (arith, c .before .before .before .before .before .pre .5)
+add-wide c = omega (arith, c .before .before .before .before .before .pre .few)
 
 mul-wide : tie.Need-mul-wide
-mul-wide c = omega (arith, c .before .before .before .before .before .pre .5)
+mul-wide c = omega (arith, c .before .before .before .before .before .pre .few)
 
 array-borrow-prefix-kept-room : tie.Need-array-borrow-prefix-kept-room
-array-borrow-prefix-kept-room c = omega (arith, c .before .before .before .before .before .pre .5)
+array-borrow-prefix-kept-room c = omega (arith, c .before .before .before .before .before .pre .few)
 
 slice-aggregate-kept : tie.Need-slice-aggregate-kept
-slice-aggregate-kept c = sym (length-take-le _ _ (omega (arith, c .before .before .before .before .before .before .pre .5)))
+slice-aggregate-kept c = sym (length-take-le _ _ (omega (arith, c .before .before .before .before .before .before .pre .few)))
 
 array-borrow-prefix-work-room : tie.Need-array-borrow-prefix-work-room
-array-borrow-prefix-work-room c = omega (arith, c .before .before .before .before .before .before .pre .5)
+array-borrow-prefix-work-room c = omega (arith, c .before .before .before .before .before .before .pre .few)
 
 slice-aggregate-work : tie.Need-slice-aggregate-work
-slice-aggregate-work c = sym (length-take-le _ _ (omega (arith, c .before .before .before .before .before .before .before .pre .5)))
+slice-aggregate-work c = sym (length-take-le _ _ (omega (arith, c .before .before .before .before .before .before .before .pre .few)))
 
 filter-requires : tie.Need-filter-requires
 filter-requires c κs = search needs
@@ -56,7 +56,7 @@ same-length c = search needs
 returns : tie.Need-returns
 unfolding leastLine
 returns c = let p = c .before .before .before .before .before .before .before .before .before .before .before .before .before .before .before .before .before .before .before .before .before .before .before .before .before .pre in
-    let f = c .before .before .before .before .before .before .before .before .before .before .before .before .before .before .before .before .filter .ensures ∙ passed _ _ _ _ _ _ _ _ _ _ _ (p .0) (p .1) (p .2) (p .3) (p .4) (length-take-le _ _ (omega (arith, p .5))) (length-take-le _ _ (omega (arith, p .5))) in
+    let f = c .before .before .before .before .before .before .before .before .before .before .before .before .before .before .before .before .filter .ensures ∙ passed _ _ _ _ _ _ _ _ _ _ _ (p .sizes) (p .rules) (p .masks) (p .masks-long) (p .limits-long) (length-take-le _ _ (omega (arith, p .few))) (length-take-le _ _ (omega (arith, p .few))) in
     wrote-is _ _ _ _ _ _ (shows-kept _ _ _ _ _ _ f (sym (c .before .before .before .before .before .before .before .before .before .before .before .before .number .ensures) ∙ c .before .before .before .before .before .before .before .before .before .before .before .if1 .taken))
     (wrote-append _ (omega (arith, c .before .before .before .before .before .before .before .before .before .before .before .before .before .before .before .before .before .before .before .before .before .before .before .before .before .good .1 .1 .1 .1 .1 .1 .1 .0)) _ _ _ _ _ _ _ (c .before .before .before .before .before .before .before .before .put-masks .ensures) (c .before .before .put-line .ensures))
 
@@ -65,7 +65,7 @@ same-length-2 c = search needs
 
 returns-2 : tie.Need-returns-2
 returns-2 c = let p = c .before .before .before .before .before .before .before .before .before .before .before .before .before .before .before .before .before .before .before .before .pre in
-    let f = c .before .before .before .before .before .before .before .before .before .before .before .filter .ensures ∙ passed _ _ _ _ _ _ _ _ _ _ _ (p .0) (p .1) (p .2) (p .3) (p .4) (length-take-le _ _ (omega (arith, p .5))) (length-take-le _ _ (omega (arith, p .5))) in
+    let f = c .before .before .before .before .before .before .before .before .before .before .before .filter .ensures ∙ passed _ _ _ _ _ _ _ _ _ _ _ (p .sizes) (p .rules) (p .masks) (p .masks-long) (p .limits-long) (length-take-le _ _ (omega (arith, p .few))) (length-take-le _ _ (omega (arith, p .few))) in
     wrote-is _ _ _ _ _ _ (shows-none _ _ _ _ _ _ f (λ z. c .before .before .before .before .before .before .if1 .left (c .before .before .before .before .before .before .before .number .ensures ∙ z))) (c .before .before .put-word .ensures)
 
 pub show-spec : {M : Type 1} → statement M
