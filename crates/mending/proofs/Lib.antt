@@ -1,3 +1,4 @@
 pub mod Nearest
 pub mod Lengths
 pub mod Answering
+pub mod Alike

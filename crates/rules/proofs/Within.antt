@@ -75,7 +75,7 @@ module _ (r u : Rules) (alike : RulesAlike r u) where
       ap (λ (f : Bool). takes p x v && f) (fits-alike (target (r .arcs) q v) x ps w (ltb-true _ _ (k .0)) (b .1) (k .1))
       ∙ rw (target-same q v h (b .0), cost-same q v h (b .0))
 
-  allowed-alike : (q s : ℕ) (ps : List Place) (w : List ℕ) → q < r .arcs .states → Below (r .arcs .values) w → allowed r q s ps w ≡ allowed u q s ps w
+  pub allowed-alike : (q s : ℕ) (ps : List Place) (w : List ℕ) → q < r .arcs .states → Below (r .arcs .values) w → allowed r q s ps w ≡ allowed u q s ps w
   allowed-alike q s ps w h b =
       and-comm (fits (r .arcs) q s ps w) (accepted r q w)
       ∙ (behind-test _ _ _ _ (accepted-alike q w h b) (fits-alike q s ps w h b) ∙ and-comm (accepted u q w) (fits (u .arcs) q s ps w))
