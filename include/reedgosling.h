@@ -54,13 +54,14 @@ extern "C" {
 #define REEDGOSLING_SESSION_LEAST 1
 #define REEDGOSLING_SESSION_KEPT 2
 
-/* The bytes of the longest right sheet, of the longest input of a job, and of a buffer that has room for all that a job prints. */
+/* The bytes of the longest right sheet, of the longest input of a job, and of a buffer that has room for all that a job prints (what a pattern
+   job prints is a sheet). */
 #define REEDGOSLING_LONGEST_SHEET 18212
 #define REEDGOSLING_LONGEST_INPUT 32768
 #define REEDGOSLING_LONGEST_OUTPUT 2048
 
-/* The answers. A call makes its checks in the order 1, 2, 3, 4, 5, 12, 7, 8, 9, 10, 6, 11 and skips those that do not concern it; the first
-   that fails is the answer. All but 0 and 11 are refusals.
+/* The answers. A call makes its checks in the order 1, 2, 3, 4, 5, 15, 14, 12, 7, 8, 9, 10, 6, 11 and skips those that do not concern it; the
+   first that fails is the answer. All but 0 and 11 are refusals.
    What an answer leaves unchanged are slices: under 1 and 2 every slice, under the other refusals those named below. The work table is a
    slice too, but no output: it is all zeros after every answer but 1 and 2.
    A single number that a call gives back through a pointer without a length (least, report, changes, says, line, states, values, start,
@@ -82,7 +83,9 @@ enum reedgosling_answer {
     REEDGOSLING_NO_ROSTER = 11,      /* no roster is allowed (for the first roster: none with that value at that place; for the prefix
                                         report: none of length n is accepted; for the planner: none with so few changes). A result and no
                                         refusal: each call says what it leaves behind */
-    REEDGOSLING_WRONG_MEMORY = 12    /* the session memory is not well-formed: session unchanged */
+    REEDGOSLING_WRONG_MEMORY = 12,   /* the session memory is not well-formed: session unchanged */
+    REEDGOSLING_MANY_STATES = 14,    /* the pattern has more than 64 states: tables unchanged */
+    REEDGOSLING_WRONG_PATTERN = 15   /* the line is no pattern, or has a letter at or above V: tables unchanged */
 };
 
 /* Every call with a rule set is handed it in the same way: n places (not for a sheet), Q states, V values, the start state, both rule tables
@@ -147,6 +150,16 @@ uint32_t reedgosling_read_sheet(
     const uint8_t *text, size_t text_length, uint8_t *targets, size_t targets_length, uint16_t *costs, size_t costs_length,
     size_t *line, size_t *states, size_t *values, uint8_t *start, uint64_t *accepting);
 
+/* Fills the tables from a pattern on one line: letters a to p for values 0 to 15, sequence, |, groups (to depth 8), and *, + or ? after a
+   letter or a group. At most 256 bytes and 32 letters, no branch empty, no line feed. Every cost is 0.
+   Lent: line of any length, targets and costs with REEDGOSLING_TABLE_SIZE entries each; count is V.
+   Returns 0, 1 (V), 2, 15 or 14. Under 0 the first Q * V entries of both tables are written and the others unchanged, and states, values,
+   start and accepting have Q, V, the start state (0) and the accepting mask. */
+uint32_t reedgosling_read_pattern(
+    const uint8_t *line, size_t line_length, size_t count,
+    uint8_t *targets, size_t targets_length, uint16_t *costs, size_t costs_length,
+    size_t *states, size_t *values, uint8_t *start, uint64_t *accepting);
+
 /* Writes the sheet of a rule set.
    Lent: buffer of any length; REEDGOSLING_LONGEST_SHEET has room for every sheet.
    Returns 0, 1, 2, 3 or 6. Under 0 the text stands at the beginning of buffer, length has its length, and the bytes past it are unchanged. */
@@ -205,6 +218,10 @@ size_t reedgosling_job(const uint8_t *input, size_t input_length, uint8_t *outpu
 
 /* The mending program's work: likewise, for an input whose job ends with the lines `drawn` and `most`. */
 size_t reedgosling_mend_job(const uint8_t *input, size_t input_length, uint8_t *output, size_t output_length);
+
+/* The pattern program's work: likewise, for an input of one line, V, a tab and a pattern. The text is a sheet, or one of the lines `values`,
+   `pattern` and `states`; REEDGOSLING_LONGEST_SHEET has room for every text. */
+size_t reedgosling_pattern_job(const uint8_t *input, size_t input_length, uint8_t *output, size_t output_length);
 
 #ifdef __cplusplus
 }

@@ -218,6 +218,16 @@ static struct told call_read(void)
     return (struct told){6, {answer, line, states, values, start, accepting}};
 }
 
+static struct told call_pattern(void)
+{
+    size_t states = SIZE_MAX, values = SIZE_MAX;
+    uint8_t start = UINT8_MAX;
+    uint64_t accepting = UINT64_MAX;
+    uint32_t answer = reedgosling_read_pattern(
+        LENT(INPUT), (size_t)sizes[VALUES], LENT(TARGETS), LENT(COSTS), &states, &values, &start, &accepting);
+    return (struct told){5, {answer, states, values, start, accepting}};
+}
+
 static struct told call_write(void)
 {
     size_t length = SIZE_MAX;
@@ -260,6 +270,11 @@ static struct told call_mendjob(void)
     return (struct told){1, {reedgosling_mend_job(LENT(INPUT), LENT(OUTPUT))}};
 }
 
+static struct told call_patternjob(void)
+{
+    return (struct told){1, {reedgosling_pattern_job(LENT(INPUT), LENT(OUTPUT))}};
+}
+
 /* A call: its name, how many numbers its line has, the slices that it is lent, one bit each, and how it is made. */
 struct call {
     const char *name;
@@ -281,6 +296,7 @@ static const struct call calls[] = {
     {"mend", 1, TABLES | CHOICES | 1u << ROSTER | 1u << DRAWN | 1u << PLAN, call_mend},
     {"check", 1, TABLES | CHOICES | 1u << ROSTER | 1u << DRAWN, call_check},
     {"read", 0, TABLES | 1u << INPUT, call_read},
+    {"pattern", 0, TABLES | 1u << INPUT, call_pattern},
     {"write", 0, TABLES | 1u << OUTPUT, call_write},
     {"open", 0, TABLES | CHOICES | MEMORY, call_open},
     {"keep", 2, TABLES | MEMORY, call_keep},
@@ -289,6 +305,7 @@ static const struct call calls[] = {
     {"back", 0, TABLES | MEMORY, call_back},
     {"job", 0, 1u << INPUT | 1u << OUTPUT, call_job},
     {"mendjob", 0, 1u << INPUT | 1u << OUTPUT, call_mendjob},
+    {"patternjob", 0, 1u << INPUT | 1u << OUTPUT, call_patternjob},
 };
 
 static void print_number(uint64_t number)

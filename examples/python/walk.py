@@ -62,6 +62,7 @@ class Rota:
         self.library = ctypes.CDLL(path)
         self.library.reedgosling_job.restype = c_size_t
         self.library.reedgosling_mend_job.restype = c_size_t
+        self.library.reedgosling_pattern_job.restype = c_size_t
         self.targets = slice_of(c_uint8, [0] * TABLE_SIZE)
         self.costs = slice_of(c_uint16, [0] * TABLE_SIZE)
         self.work = slice_of(c_uint32, [0] * WORK_LENGTH)
@@ -69,7 +70,7 @@ class Rota:
         self.states, self.values, self.start, self.accepting = c_size_t(), c_size_t(), c_uint8(), c_uint64()
 
     def rules(self):
-        """The rule set, as every call but the reader and the job is handed it."""
+        """The rule set, as every call but the readers and the jobs is handed it."""
         return self.states, self.values, self.start, *lent(self.targets), *lent(self.costs), self.accepting
 
     def call(self, name, *arguments):
@@ -82,6 +83,12 @@ class Rota:
         answer = self.library.reedgosling_read_sheet(
             *lent(slice_of(c_uint8, text)), *lent(self.targets), *lent(self.costs), *(byref(number) for number in numbers))
         return answer, line.value
+
+    def read_pattern(self, line, count):
+        numbers = self.states, self.values, self.start, self.accepting
+        return self.library.reedgosling_read_pattern(
+            *lent(slice_of(c_uint8, line)), c_size_t(count), *lent(self.targets), *lent(self.costs),
+            *(byref(number) for number in numbers))
 
     def write(self):
         buffer, length = slice_of(c_uint8, [0] * 18212), c_size_t()
@@ -179,6 +186,19 @@ def session_walk(rota, masks, limits):
         print(f"{said}: answer {rota.ask(name, *numbers)}, {rota.shown()}")
 
 
+def patterns(rota, masks, limits):
+    line = b"(aa|b|bb)(c(aa|b|bb))*"
+    answer = rota.read_pattern(line, 2)
+    print(f"the colleagues' pattern for two shifts: answer {answer}")
+    answer = rota.read_pattern(line, 3)
+    print(f"for three: answer {answer}, {rota.states.value} states, {rota.values.value} values, start {rota.start.value}, "
+          f"accepting mask {rota.accepting.value}")
+    answer, kept, least = rota.filter(masks, limits)
+    print(f"three days of it: answer {answer}, kept {spelled(kept)}, least cost {least}")
+    print("sheet of the pattern ab:")
+    print(rota.job(b"2\tab\n", "pattern_job"), end="")
+
+
 def main(path):
     rota = Rota(path)
     masks, limits = slice_of(c_uint16, [7] * PLACES), slice_of(c_uint32, [366000] * PLACES)
@@ -191,6 +211,7 @@ def main(path):
     print(rota.job(SHEET + b"\ndays\t3\nkeep\t1\t1\n"), end="")
     print("2 2 0 mended, no shift 0 on day 1:")
     print(rota.job(SHEET + b"\ndays\t3\nkeep\t1\t6\ndrawn\t2\t2\t0\nmost\t7\n", "mend_job"), end="")
+    patterns(rota, masks, limits)
 
 
 if __name__ == "__main__":

@@ -3,11 +3,15 @@
 
 use crate::mend::Drawn;
 use crate::pairs::Pairs;
+use crate::pattern::{is_word, parse, rules_of};
 use crate::rules::{narrowed, Case, Rules};
 use crate::{report, tables, words};
 
 const MOST_WORDS: usize = 4_096;
 const MOST_PAIRS: usize = 4_096;
+/// Of a pattern's words: all up to length 6 for up to three values.
+const MOST_PATTERN_WORDS: usize = 729;
+const LONGEST_PATTERN_WORDS: usize = 6;
 
 /// Whether brute force is feasible, so that its verdict is part of the agreement.
 fn words_are_few(places: usize, rules: &Rules) -> bool {
@@ -46,6 +50,18 @@ pub fn checks_agree(drawn: &Drawn, roster: &[u8], claimed: u32) -> bool {
     let Drawn { case, roster: was } = drawn;
     !words_are_few(case.places(), case.rules)
         || words::proposal_is_right(case, was, roster, claimed) == drawn.is_right(roster, claimed)
+}
+
+/// Whether the sheet of a line accepts exactly the words of the pattern, of all short words.
+pub fn patterns_agree(line: &[u8], values: usize) -> bool {
+    let (Some(branches), Ok(rules)) = (parse(line, values), rules_of(line, values)) else {
+        return true;
+    };
+    let few = |places: &usize| words::count_up_to(*places, &rules, MOST_PATTERN_WORDS).is_some();
+    let lengths = (0..=LONGEST_PATTERN_WORDS).take_while(few);
+    lengths
+        .flat_map(|places| words::all_words(places, values))
+        .all(|word| words::is_accepted(&rules, &word) == is_word(&branches, &word))
 }
 
 #[cfg(test)]

@@ -16,6 +16,8 @@ pub enum Answer {
     NoMark = 10,
     NoRoster = 11,
     Memory = 12,
+    States = 14,
+    Pattern = 15,
 }
 
 impl Answer {

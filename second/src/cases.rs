@@ -1,6 +1,7 @@
 //! Random problems for tests and scripts.
 
 pub mod damage;
+pub mod patterns;
 
 use crate::random::Random;
 use crate::rules::{work_length, Case, Rules};

@@ -12,6 +12,8 @@ pub mod job;
 pub mod mend;
 pub mod mendjob;
 pub mod pairs;
+pub mod pattern;
+pub mod patternjob;
 pub mod random;
 pub mod report;
 pub mod rules;

@@ -167,3 +167,99 @@ pub const WRONG_MOST_LINES: &[&str] = &[
     "keep\t0\t7\n",
     "\n",
 ];
+
+/// "My colleagues write" this.
+pub const COLLEAGUES: &str = "(aa|b|bb)(c(aa|b|bb))*";
+
+/// A pattern of 64 states; with `c` behind it there is one more.
+pub const PATTERN_OF_64: &str = "((a|ab)*b(a|bb)(a|b)(a|bb))+";
+
+/// The empty prefix and every choice of the last six letters' a's: 1 + 2^6 states.
+pub const PATTERN_OF_65: &str = "(a|b)*a(a|b)(a|b)(a|b)(a|b)(a|b)";
+
+/// Right lines for V = 3, with the number of their states.
+pub const RIGHT_PATTERNS: &[(&str, usize)] = &[
+    (COLLEAGUES, 10),
+    ("a", 2),
+    ("a*", 2),
+    ("a+", 2),
+    ("a?", 2),
+    ("(a?)*", 2),
+    ("(a*)+", 2),
+    ("((a*)*)*", 2),
+    ("(a?b?)*", 3),
+    ("(a?b?)+c", 4),
+    ("((a|b)?)+", 3),
+    ("a|a", 2),
+    ("(a|a)b", 3),
+    // The two b's are two places, the two a's are read by both.
+    ("ab|cb", 5),
+    ("ab|ac", 4),
+    ("aa*", 3),
+    ("a*a", 2),
+    ("(ab)+", 3),
+    ("(ab)*c?", 4),
+    ("(a|b)*a", 3),
+    ("a|bc|(c)", 5),
+    ("c?b?a?", 4),
+    ("((((((((a))))))))", 2),
+    ("((((((((a|b)c))))))+)?", 4),
+    ("(a)(b)((c))", 4),
+    (PATTERN_OF_64, 64),
+];
+
+/// Lines that are wrong for V = 3.
+pub const WRONG_PATTERNS: &[&str] = &[
+    "",
+    "a**",
+    "a*+",
+    "a+?",
+    "a??",
+    "(a)+*",
+    "a|",
+    "|a",
+    "a||b",
+    "|",
+    "()",
+    "()a",
+    "a()*",
+    "(|a)",
+    "(a|)",
+    "(a||b)",
+    "(a",
+    "a)",
+    "(",
+    ")",
+    ")a(",
+    "(a))(b",
+    "((a)",
+    "*a",
+    "+",
+    "?",
+    "a|*b",
+    "(*a)",
+    "(((((((((a)))))))))",
+    "a|b|(((((((((a)))))))))*",
+    "d",
+    "abd",
+    "p",
+    "q",
+    "z",
+    "A",
+    "`",
+    "a\n",
+    "\na",
+    "a\nb",
+    "a\r",
+    "a b",
+    " a",
+    "a\t",
+    "a.b",
+    "[a]",
+    "a{2}",
+    "a\\*",
+    "\0",
+    "a\0",
+    "é",
+    "0",
+];

@@ -14,7 +14,10 @@ mod lines;
 pub use call::{Call, CameTo};
 pub use lent::{Lent, Slice};
 
-use crate::agree::{checks_agree, filters_agree, first_rosters_agree, mends_agree, reports_agree};
+use crate::agree::{
+    checks_agree, filters_agree, first_rosters_agree, mends_agree, patterns_agree, reports_agree,
+};
+use crate::rules::MOST_VALUES;
 use crate::{mend, report, sheet};
 use bench::Bench;
 
@@ -124,7 +127,8 @@ impl Script {
 }
 
 /// Whether the plain program's several ways agree on a call that they have something to say
-/// about: brute force, tables and pairs on a filter, the reader on what the writer writes.
+/// about: brute force, tables and pairs on a filter, the reader on what the writer writes, words
+/// matched on the states of a pattern.
 fn ways_agree(lent: &Lent, call: Call) -> bool {
     let case = lent.case();
     match call {
@@ -146,7 +150,11 @@ fn ways_agree(lent: &Lent, call: Call) -> bool {
             let meant = lent.values_right(&lent.drawn) && lent.values_right(&lent.roster);
             !(lent.is_right() && meant) || checks_agree(&lent.drawn(), &lent.roster, claimed)
         }
-        Call::Read | Call::Ask(_) | Call::Job | Call::MendJob => true,
+        Call::Pattern => {
+            let values = lent.rules.values;
+            !(1..=MOST_VALUES).contains(&values) || patterns_agree(&lent.input, values)
+        }
+        Call::Read | Call::Ask(_) | Call::Job | Call::MendJob | Call::PatternJob => true,
     }
 }
 

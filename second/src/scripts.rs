@@ -10,6 +10,8 @@ mod memory;
 mod mendjobs;
 mod mends;
 mod order;
+mod patternjobs;
+mod patterns;
 mod problems;
 mod reports;
 mod sheets;
@@ -51,6 +53,13 @@ const FIXED: &[fn(&mut Script)] = &[
     mends::limits,
     mendjobs::samples,
     mendjobs::long,
+    patterns::samples,
+    patterns::sizes,
+    patterns::byte_by_byte,
+    patterns::lines,
+    patterns::faults,
+    patternjobs::samples,
+    patternjobs::long,
 ];
 
 /// What makes the calls of a random case.
@@ -59,7 +68,9 @@ type RandomCase = fn(&mut Random, &mut Script);
 /// How many of a hundred random cases are of each kind, and its name. One of a problem or text
 /// makes some calls, a session's history up to some two hundred.
 const RANDOM: &[(usize, &str, RandomCase)] = &[
-    (51, "problems", problems::case),
+    (45, "problems", problems::case),
+    (4, "patterns", patterns::case),
+    (2, "patternjobs", patternjobs::case),
     (4, "mends", mends::case),
     (2, "mendjobs", mendjobs::case),
     (3, "reports", reports::case),

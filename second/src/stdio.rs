@@ -4,7 +4,8 @@ use crate::job::MOST_INPUT;
 use std::io::{self, Read, Write};
 
 /// One byte more than the most is enough to see that the input is long. A reading that fails
-/// is treated as the end of the input, and what came before it stands.
+/// is treated as the end of the input, and what came before it stands. A pattern's input may have
+/// any length, but what stands past so many bytes changes nothing that is printed.
 fn read_input() -> Vec<u8> {
     let mut input = Vec::new();
     let most = MOST_INPUT as u64 + 1;

@@ -39,6 +39,10 @@ fn running_costs(rules: &Rules, word: &[u8]) -> Option<Vec<u32>> {
     rules.accepts(state).then_some(running)
 }
 
+pub fn is_accepted(rules: &Rules, word: &[u8]) -> bool {
+    running_costs(rules, word).is_some()
+}
+
 /// "each value is in its place's mask, and at every place the running cost is at most that
 /// place's limit".
 fn is_within(case: &Case, word: &[u8], running: &[u32]) -> bool {

@@ -54,9 +54,12 @@ fn make_with_tables(word: usize, line: &[u8], memory: &mut [u64]) {
 // Makes the call that a line asks for, whichever group it is of.
 fn make(word: usize, line: &[u8], memory: &mut [u64]) {
     match word {
-        script::READ | script::WRITE | script::JOB | script::MEND_JOB => {
-            sheet_calls::carry_out(word, memory)
-        }
+        script::READ
+        | script::PATTERN
+        | script::WRITE
+        | script::JOB
+        | script::MEND_JOB
+        | script::PATTERN_JOB => sheet_calls::carry_out(word, memory),
         _ => make_with_tables(word, line, memory),
     }
 }

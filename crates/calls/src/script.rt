@@ -30,21 +30,25 @@ pub(crate) const CHECK: usize = 11;
 
 pub(crate) const READ: usize = 12;
 
-pub(crate) const WRITE: usize = 13;
+pub(crate) const PATTERN: usize = 13;
 
-pub(crate) const JOB: usize = 14;
+pub(crate) const WRITE: usize = 14;
 
-pub(crate) const MEND_JOB: usize = 15;
+pub(crate) const JOB: usize = 15;
 
-pub(crate) const OPEN: usize = 16;
+pub(crate) const MEND_JOB: usize = 16;
 
-pub(crate) const KEEP: usize = 17;
+pub(crate) const PATTERN_JOB: usize = 17;
 
-pub(crate) const LIMIT: usize = 18;
+pub(crate) const OPEN: usize = 18;
 
-pub(crate) const MARK: usize = 19;
+pub(crate) const KEEP: usize = 19;
 
-pub(crate) const BACK: usize = 20;
+pub(crate) const LIMIT: usize = 20;
+
+pub(crate) const MARK: usize = 21;
+
+pub(crate) const BACK: usize = 22;
 
 pub(crate) const UNKNOWN: usize = BACK + 1;
 
@@ -152,7 +156,7 @@ fn word_among(line: &[u8], words: &[u8]) -> usize {
 pub(crate) fn word_of(line: &[u8]) -> usize {
     word_among(
         line,
-        b"#size\tlength\tput\tfill\tshow\tbytes\tfilter\nfirst\treport\nmend\tcheck\tread\nwrite\njob\nmendjob\nopen\nkeep\tlimit\tmark\nback\n",
+        b"#size\tlength\tput\tfill\tshow\tbytes\tfilter\nfirst\treport\nmend\tcheck\tread\npattern\nwrite\njob\nmendjob\npatternjob\nopen\nkeep\tlimit\tmark\nback\n",
     )
 }
 

@@ -1,4 +1,4 @@
-// The calls that work on text: a sheet read, a sheet written, and the programs' jobs. Each prints its answer and the numbers that it carries.
+// The calls that work on text: a sheet or a pattern read, a sheet written, and the programs' jobs. Each prints its answer and the numbers that it carries.
 use crate::call::Numbers;
 use crate::call::numbers_of;
 use crate::cells;
@@ -23,6 +23,19 @@ fn read(input: &[u8], targets: &mut [u8], costs: &mut [u16]) {
     tell_number(reading.accepting);
 }
 
+fn pattern(input: &[u8], numbers: Numbers, targets: &mut [u8], costs: &mut [u16]) {
+    let given = numbers.size;
+    let composed = compositor::read_pattern(input, given.values, targets, costs);
+    let size = composed.size;
+    let start = size.start;
+    let answer = composed.answer;
+    tell_answer(answer);
+    tell_number(size.states as u64);
+    tell_number(size.values as u64);
+    tell_number(start.0 as u64);
+    tell_number(composed.accepting);
+}
+
 fn write(numbers: Numbers, targets: &[u8], costs: &[u16], output: &mut [u8]) {
     let size = numbers.size;
     let written = scribe::write_sheet(size, targets, costs, numbers.accepting, output);
@@ -41,9 +54,11 @@ fn make(
 ) {
     match word {
         script::READ => read(input, targets, costs),
+        script::PATTERN => pattern(input, numbers, targets, costs),
         script::WRITE => write(numbers, targets, costs, output),
         script::JOB => tell_number(job::job(input, output) as u64),
-        _ => tell_number(job::mend_job(input, output) as u64),
+        script::MEND_JOB => tell_number(job::mend_job(input, output) as u64),
+        _ => tell_number(drafter::pattern_job(input, output) as u64),
     }
 }
 

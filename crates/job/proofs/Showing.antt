@@ -11,7 +11,6 @@ use Rattle.rules.specs.Checks.{handed, sizeRight, sizesRight, tablesLong, rules
 use Rattle.rules.proofs.Checks.{both}
 use Rattle.filter.specs.Filter.{Left, left, filterDone, filterOf}
 use Rattle.filter.proofs.Passes.{filter-passes}
-use Rattle.text.specs.Writing.{Wrote}
 use Rattle.job.specs.Output.{keptLines, leastLine, noneText, verdictText}
 
 -- every check is passed
@@ -37,7 +36,3 @@ module _ (t : Verdict) (work : List ℕ) (a l : ℕ) (ks w : List ℕ) (e : left
   shows-none h =
       let x : a ≡ t .answered = ap (λ (o : Left). o .answer) e in
       rw (ne-eqb (t .answered) 0 (λ z. h (x ∙ z)))
-
--- a text by another name
-pub wrote-is : (b : List ℕ) (at : ℕ) (x y c : List ℕ) (p : ℕ) → x ≡ y → Wrote b at x c p → Wrote b at y c p
-wrote-is b at x y c p e w = rw e at w

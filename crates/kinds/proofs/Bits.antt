@@ -235,3 +235,14 @@ mask-more f k m e h =
 pub mask-skip : (f : ℕ → Bool) (k : ℕ) → f k ≡ false → maskOf f (suc k) ≡ maskOf f k
 unfolding maskOf
 mask-skip f k h = rw h (omega arith)
+
+-- a number that is not 0 has a bit
+pub some-bit : (k x : ℕ) → x < 2 ^ k → (x ≡ 0 → ⊥) → (v : ℕ) × (v < k) × (bit x v ≡ true)
+some-bit zero x h n = absurd (n (omega arith))
+some-bit (suc k) x h n = go (ℕ-discrete (x % 2) 1) (λ l m. some-bit k (x / 2) l m)
+  where
+    go : Dec (x % 2 ≡ 1) → (x / 2 < 2 ^ k → (x / 2 ≡ 0 → ⊥) → (v : ℕ) × (v < k) × (bit (x / 2) v ≡ true)) → (v : ℕ) × (v < suc k) × (bit x v ≡ true)
+    go (yes e) rec = (0, omega arith, bit-zero x ∙ eq-eqb (x % 2) 1 e)
+    go (no m) rec =
+        let r = rec (omega (arith, pow-suc 2 k)) (λ e. n (omega arith)) in
+        (suc (r .0), omega (arith, r .1), bit-suc x (r .0) ∙ r .2)

@@ -1,8 +1,8 @@
 -- The kept masks: their bits, their bound, and that nothing else has both; the first roster of a kept value; what no roster leaves.
 use mathlib.Core.Path.{_≡_, refl, sym, ap, _∙_}
 use mathlib.Core.Bool.{Bool, true, false, cond, _||_, false≢true}
-use mathlib.Core.List.{List, [], _∷_, map}
-use Prim.Native.Nat.{ℕ, zero, suc, _+_, _^_, _<_}
+use mathlib.Core.List.{List, [], _∷_}
+use Prim.Native.Nat.{ℕ, _^_, _<_}
 use native.Mathlib.Nat.{zero-add}
 use native.Mathlib.Decide.{decLt}
 use native.Mathlib.Omega.{arith}
@@ -12,7 +12,8 @@ use lib.Seq.{ext-getD}
 use Rattle.kinds.specs.Bits.{bit}
 use Rattle.kinds.proofs.Bits.{bit-none, bit-below, bit-mask, mask-lt, mask-is}
 use Rattle.meaning.specs.Meaning.{Rules, Place, rosters, has, keptAt, kept, first, answer, verdict, verdictOn, verdictOf}
-use Rattle.meaning.specs.Lists.{from, those, any}
+use Rattle.meaning.specs.Lists.{those, any}
+use Rattle.meaning.proofs.Lists.{length-from, at-from}
 
 -- the kept mask of a place has the values that some roster has there
 pub kept-bit : (vs : ℕ) (ws : List (List ℕ)) (i v : ℕ) → v < vs → bit (keptAt vs ws i) v ≡ any (has i v) ws
@@ -23,17 +24,6 @@ kept-bit vs ws i v h = bit-mask (λ v. any (has i v) ws) vs v h
 pub kept-lt : (vs : ℕ) (ws : List (List ℕ)) (i : ℕ) → keptAt vs ws i < 2 ^ vs
 unfolding keptAt
 kept-lt vs ws i = mask-lt (λ v. any (has i v) ws) vs
-
--- the n numbers from i on, each sent through f, are n
-length-from : (f : ℕ → ℕ) (i n : ℕ) → length (map f (from i n)) ≡ n
-length-from f i zero = refl
-length-from f i (suc n) = ap suc (length-from f (suc i) n)
-
--- the number at i of those from k on, each sent through f
-at-from : (f : ℕ → ℕ) (k n i : ℕ) → i < n → getD (map f (from k n)) i 0 ≡ f (k + i)
-at-from f k zero i h = absurd (omega arith)
-at-from f k (suc n) zero h = ap f (omega arith)
-at-from f k (suc n) (suc i) h = at-from f (suc k) n i (omega arith) ∙ ap f (omega arith)
 
 -- there are as many kept masks as places
 pub kept-length : (vs n : ℕ) (ws : List (List ℕ)) → length (kept vs n ws) ≡ n

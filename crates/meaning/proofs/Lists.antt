@@ -164,6 +164,17 @@ any-more f n =
     let e : 0 + n ≡ n = omega arith in
     rw (from-append 0 n 1, e) (any-append f (from 0 n) (n ∷ []) ∙ ap (λ (b : Bool). any f (from 0 n) || b) (or-false (f n)))
 
+-- the n numbers from i on, each sent through f, are n
+pub length-from : (f : ℕ → ℕ) (i n : ℕ) → length (map f (from i n)) ≡ n
+length-from f i zero = refl
+length-from f i (suc n) = ap suc (length-from f (suc i) n)
+
+-- the number at i of those from k on, each sent through f
+pub at-from : (f : ℕ → ℕ) (k n i : ℕ) → i < n → getD (map f (from k n)) i 0 ≡ f (k + i)
+at-from f k zero i h = absurd (omega arith)
+at-from f k (suc n) zero h = ap f (omega arith)
+at-from f k (suc n) (suc i) h = at-from f (suc k) n i (omega arith) ∙ ap f (omega arith)
+
 -- pairs counted by one number
 module _ {B : Type 0} (g : ℕ → ℕ → List B) (v : ℕ) where
   row-flat : (q j m : ℕ) → j + m ≤ v → each (λ k. g (k / v) (k % v)) (from (q * v + j) m) ≡ each (g q) (from j m)

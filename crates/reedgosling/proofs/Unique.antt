@@ -11,6 +11,7 @@ use Rattle.filter.specs.Filter.{Left, left, filterOf}
 use Rattle.filter.specs.First.{Given, given, firstOf}
 use Rattle.mending.specs.Outcomes.{Planned, planned, mendOf, checkOf}
 use Rattle.sheet.specs.Reading.{Outcome as Reading, readOf}
+use Rattle.patterns.specs.Outcome.{Outcome as Composing, patternOf}
 use Rattle.scribe.specs.Writing.{Outcome as Writing, writeLeft, writeOf}
 
 pub filter-unique : (h : Handed) (ms ls ks work : List ℕ) (a b l m : ℕ) (k k2 w w2 : List ℕ)
@@ -42,6 +43,9 @@ check-unique h ms ls ds w claimed a b n m p q = (p .0 ∙ sym (q .0), p .1 ∙ s
 
 pub read-sheet-unique : (text t c : List ℕ) (x y : Reading) → x ≡ readOf text t c → y ≡ readOf text t c → x ≡ y
 read-sheet-unique text t c x y p q = p ∙ sym q
+
+pub read-pattern-unique : (line : List ℕ) (vs : ℕ) (t c : List ℕ) (x y : Composing) → x ≡ patternOf line vs t c → y ≡ patternOf line vs t c → x ≡ y
+read-pattern-unique line vs t c x y p q = p ∙ sym q
 
 pub write-sheet-unique : (r : Rules) (s : ℕ) (buffer : List ℕ) (a b n m : ℕ) (x y : List ℕ)
     → writeLeft a n x ≡ writeOf r s buffer → writeLeft b m y ≡ writeOf r s buffer → (a ≡ b) × (n ≡ m) × (x ≡ y)

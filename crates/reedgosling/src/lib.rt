@@ -11,10 +11,12 @@ ghost use Rattle.filter.specs.Filter.{left, filterOf};
 ghost use Rattle.filter.specs.First.{given, firstOf};
 ghost use Rattle.mending.specs.Outcomes.{planned, mendOf, checkOf};
 ghost use Rattle.sheet.specs.Reading.{readLeft, readOf};
+ghost use Rattle.patterns.specs.Outcome.{patternLeft, patternOf};
 ghost use Rattle.scribe.specs.Writing.{writeLeft, writeOf};
 ghost use Rattle.text.specs.Writing.{Wrote};
 ghost use Rattle.job.specs.Job.{jobText};
 ghost use Rattle.job.specs.Mend.{mendJobText};
+ghost use Rattle.drafter.specs.Drafting.{patternJobText};
 use kinds::State;
 use kinds::Value;
 use rules::Size;
@@ -236,6 +238,30 @@ pub extern "C" fn reedgosling_read_sheet(
 }
 
 #[no_mangle]
+pub extern "C" fn reedgosling_read_pattern(
+    line: &[u8],
+    count: usize,
+    targets: &mut [u8],
+    costs: &mut [u16],
+    states: &mut usize,
+    values: &mut usize,
+    start: &mut u8,
+    accepting: &mut u64,
+) -> u32
+    ensures { λ r. ⌜ patternLeft r (now (states .exit)) (now (values .exit)) (now (start .exit)) (now (accepting .exit)) (now (targets .exit)) (now (costs .exit)) ≡ patternOf (now (line .entry)) count (now (targets .entry)) (now (costs .entry)) ⌝ }
+{
+    let composed = compositor::read_pattern(line, count, targets, costs);
+    let answer = composed.answer;
+    let made = composed.size;
+    let begin = made.start;
+    *states = made.states;
+    *values = made.values;
+    *start = begin.0;
+    *accepting = composed.accepting;
+    answer.number() as u32
+}
+
+#[no_mangle]
 pub extern "C" fn reedgosling_write_sheet(
     states: usize,
     values: usize,
@@ -422,4 +448,11 @@ pub extern "C" fn reedgosling_mend_job(input: &[u8], output: &mut [u8]) -> usize
     ensures { λ r. ⌜ Wrote (now (output .entry)) 0 (mendJobText (now (input .entry))) (now (output .exit)) r ⌝ }
 {
     job::mend_job(input, output)
+}
+
+#[no_mangle]
+pub extern "C" fn reedgosling_pattern_job(input: &[u8], output: &mut [u8]) -> usize
+    ensures { λ r. ⌜ Wrote (now (output .entry)) 0 (patternJobText (now (input .entry))) (now (output .exit)) r ⌝ }
+{
+    drafter::pattern_job(input, output)
 }

@@ -33,6 +33,17 @@ pub or-cases : {A : Type 0} (a b : Bool) → (a || b) ≡ true → (a ≡ true �
 or-cases true b e f g = f refl
 or-cases false b e f g = g e
 
+pub or-left : (a b : Bool) → a ≡ true → (a || b) ≡ true
+or-left a b h = rw h
+
+pub or-right : (a b : Bool) → b ≡ true → (a || b) ≡ true
+or-right true b h = refl
+or-right false b h = h
+
+pub or-no : (a b : Bool) → (a || b) ≡ false → (a ≡ false) × (b ≡ false)
+or-no true b h = absurd (false≢true (sym h))
+or-no false b h = (refl, h)
+
 pub not-so : (b : Bool) → (b ≡ true → ⊥) → b ≡ false
 not-so true h = absurd (h refl)
 not-so false h = refl

@@ -14,7 +14,7 @@ use Rattle.rules.specs.declared.Answer.{Answer}
 use Rattle.rules.specs.declared.Answer.the-variants as the
 use Rattle.rules.specs.declared.Reported.{Reported}
 
--- an answer is told by its number
+-- an answer is told by its number; 13 is none yet
 abbrev answers : List Answer
 answers =
     the.Done
@@ -30,6 +30,9 @@ answers =
     ∷ the.NoMark
     ∷ the.NoRoster
     ∷ the.WrongMemory
+    ∷ the.Done
+    ∷ the.ManyStates
+    ∷ the.WrongPattern
     ∷ []
 
 at-number : (a : Answer) → getD answers (numberOf a) the.Done ≡ a
@@ -46,6 +49,8 @@ at-number the.MarksFull = refl
 at-number the.NoMark = refl
 at-number the.NoRoster = refl
 at-number the.WrongMemory = refl
+at-number the.ManyStates = refl
+at-number the.WrongPattern = refl
 
 pub answer-one : (a b : Answer) → numberOf a ≡ numberOf b → a ≡ b
 answer-one a b e = sym (at-number a) ∙ (ap (λ (n : ℕ). getD answers n the.Done) e ∙ at-number b)

@@ -36,6 +36,8 @@ pub enum Answer {
     NoMark,
     NoRoster,
     WrongMemory,
+    ManyStates,
+    WrongPattern,
 }
 
 impl Answer {
@@ -56,6 +58,8 @@ impl Answer {
             Answer::NoMark => 10,
             Answer::NoRoster => 11,
             Answer::WrongMemory => 12,
+            Answer::ManyStates => 14,
+            Answer::WrongPattern => 15,
         }
     }
 }

@@ -16,20 +16,19 @@ use Rattle.meaning.specs.Lists.{from, each}
 use Rattle.rules.specs.Checks.{sizeRight, tablesLong, rulesRight}
 use Rattle.meaning.specs.Meaning.{Arcs, Rules, rulesOf}
 use Rattle.rules.specs.declared.Size.{Size}
-use Rattle.rules.proofs.Lawful.{lawful-right}
+use Rattle.rules.proofs.Checks.{both}
+use Rattle.rules.proofs.Lawful.{lawful, lawful-right}
 use Rattle.text.specs.Numbers.{decimal}
 use Rattle.text.proofs.Decimals.{decimal-small, decimal-step, decimal-length, field-length}
 use Rattle.sheet.specs.Lines.{Line, final, arc, sizeOf, sizeText, lineText, place}
-use Rattle.sheet.specs.Sheets.{finalLine, sheetText, textOf, sheet, readSheet}
+use Rattle.sheet.specs.Sheets.{finalLine, linesOf, sheetText, textOf, sheet, readSheet}
 use Rattle.sheet.specs.Inner.{Sized}
 use Rattle.sheet.proofs.Texts.{LineIn, Rising, Sheeted, sheet-read}
-use Rattle.sheet.proofs.Tables.{placeLine, lines-flat}
+use Rattle.sheet.proofs.Tables.{placeLine, lines-flat, lines-rising}
 use Rattle.sheet.proofs.Filled.{place-top}
 use Rattle.sheet.proofs.OneText.{size-in}
 use Rattle.meaning.proofs.Lists.{each-append, each-each}
-
-abbrev pub longest : ℕ
-longest = 18212
+use Rattle.scribe.specs.Writing.{longestSheet}
 
 -- the lengths of lines, by their numbers
 size-length : (z : Size) → length (sizeText z) ≡ 8 + length (decimal (z .states)) + length (decimal (z .values)) + length (decimal (z .start .0))
@@ -143,7 +142,7 @@ module _ (z : Size) (g : Sized z) where
       (omega (arith, line-fits l w, lines-short (suc (place z l)) (suc k) ls (r .2) (λ m x y. later l m (r .0) x y)))
 
 -- NO RIGHT SHEET IS LONGER
-pub text-short : (z : Size) (ls : List Line) → Sized z → Rising z 0 ls → length (textOf z ls) ≤ longest
+pub text-short : (z : Size) (ls : List Line) → Sized z → Rising z 0 ls → length (textOf z ls) ≤ longestSheet
 unfolding textOf
 text-short z ls g r =
     let q : z .states ≤ mostStates = g .few-states in
@@ -152,8 +151,15 @@ text-short z ls g r =
     rw (length-append (sizeText z) (each lineText ls))
     (omega (arith, rooms, lines-short z g 0 0 ls r (λ l a b. omega arith), size-length z, decimal-length 1 (z .states) (omega arith), decimal-length 1 (z .values) (omega arith), decimal-length 1 (z .start .0) (omega arith)))
 
-pub sheet-short : (text : List ℕ) (z : Size) (ls : List Line) → readSheet text ≡ sheet z ls → length text ≤ longest
+pub sheet-short : (text : List ℕ) (z : Size) (ls : List Line) → readSheet text ≡ sheet z ls → length text ≤ longestSheet
 sheet-short text z ls e = let w : Sheeted text z ls = sheet-read text z ls e in rw (w .text) (text-short z ls (w .size) (w .rising))
+
+pub right-short : (q v s : ℕ) (t c : List ℕ) (a : ℕ) → rulesRight q v s t c a ≡ true → length (sheetText (rulesOf q v t c a) s) ≤ longestSheet
+unfolding rulesRight sheetText
+right-short q v s t c a h =
+    let p = both (sizeRight q v s) _ h in
+    let g : Sized (sizeOf q v s) = size-in q v s (p .0) in
+    text-short (sizeOf q v s) (linesOf (rulesOf q v t c a)) g (lines-rising (rulesOf q v t c a) s g (lawful q v t c a (both (tablesLong t c) _ (p .1) .1)))
 
 -- and one right sheet is that long: each number with as many digits as it may have, every state accepting, no arc missing
 abbrev fullTargets : List ℕ
@@ -201,7 +207,7 @@ full-arc a k v t c q h =
     rw (e, t, c, v, lt-ltb 63 (a .states) q, append-nil (lineText (arc (k / mostValues) (k % mostValues) 63 mostCost)), room-arc k h)
     (omega (arith, arc-length (k / mostValues) (k % mostValues) 63 mostCost))
 
-pub longest-sheet : length (sheetText (rulesOf mostStates mostValues fullTargets fullCosts everyState) 63) ≡ longest
+pub longest-sheet : length (sheetText (rulesOf mostStates mostValues fullTargets fullCosts everyState) 63) ≡ longestSheet
 unfolding sizeText decimal
 longest-sheet =
     full-length full 63 full-final (λ k h. full-arc (full .arcs) k refl (full-target k (omega arith)) (full-cost k (omega arith)) (omega arith) (omega arith)) ∙ omega (arith, rooms)

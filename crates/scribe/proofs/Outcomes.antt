@@ -4,6 +4,7 @@ use mathlib.Core.Bool.{Bool, true, false}
 use mathlib.Core.List.{List, [], _∷_, _++_}
 use Prim.Native.Nat.{ℕ, _+_, _≤_, _<_}
 use native.Mathlib.Omega.{arith}
+use native.Mathlib.Decide.{decLe}
 use lib.Dec.{leb}
 use lib.ListN.{length, drop}
 use lib.Seq.{sets-eq}
@@ -53,6 +54,18 @@ module _ (r : Rules) (s : ℕ) (b : List ℕ) where
     passed : decided (check 6 (leb (length text) (length b)) ∷ []) (λ n. writeLeft n 0 b) (writeLeft 0 (length text) (text ++ drop (length text) b)) ≡ writeOf r s b
     unfolding writeOf decided rulesRight
     passed = let p = both (sized r s) _ h in let q = both (long r) _ (p .1) in rw (p .0, q .0, q .1)
+
+    pub right-writes : length text ≤ length b → writeOf r s b ≡ writeLeft 0 (length text) (text ++ drop (length text) b)
+    unfolding decided
+    right-writes l = rw (← passed, le-leb (length text) (length b) l)
+
+    pub right-room : writeOf r s b .answer ≡ 0 → length text ≤ length b
+    unfolding decided
+    right-room e = go (decLe (length text) (length b))
+      where
+        go : Dec (length text ≤ length b) → length text ≤ length b
+        go (yes l) = l
+        go (no l) = let k : _≡_ {A = ℕ} 6 0 = rw (← passed, lt-leb (length text) (length b) (omega arith)) at e in absurd (omega arith)
 
     pub left-buffer : {w : Written} {b1 b2 c : List ℕ} {n : ℕ} → w ≡ refusal ShortBuffer → Wrote b1 0 text c n → b2 ≡ b → length b2 < n → leftOf w b2 ≡ writeOf r s b
     unfolding decided

@@ -7,16 +7,15 @@ use native.Mathlib.Omega.{arith}
 use lib.Dec.{leb}
 use lib.ListN.{length, take, drop}
 use lib.Seq.{take-at}
-use borrow.Author.Tests.{le-leb}
 use Rattle.meaning.specs.Meaning.{rulesOf}
 use Rattle.rules.specs.Checks.{Handed, OneRuleSet, sizeRight, tablesLong, tablesRight, rulesRight}
 use Rattle.rules.specs.Answers.{check, decided}
-use Rattle.rules.proofs.Checks.{both, all-passed}
 use Rattle.rules.proofs.Within.{tables-alike, lengths-same}
 use Rattle.sheet.specs.Sheets.{sheetText}
 use Rattle.sheet.specs.Reading.{readLeft, readOf}
 use Rattle.sheet.proofs.OneText.{reads-back, one-text, text-alike}
 use Rattle.scribe.specs.Writing.{writeLeft, writeOf}
+use Rattle.scribe.proofs.Outcomes.{right-writes}
 
 -- what answer 0 says: the rule set is right, and its text stands at the front of the buffer
 pub record Delivered (q v s : ℕ) (t c : List ℕ) (a n : ℕ) (b : List ℕ) : Type 0 where
@@ -51,13 +50,10 @@ module _ (q v s : ℕ) (t c : List ℕ) (a : ℕ) (b : List ℕ) where
   -- AND BACK: bytes that are read are written again, each the same, into any buffer that has room for them
   pub read-writes : (bytes xs ys : List ℕ) (n : ℕ) → readOf bytes xs ys ≡ readLeft 0 n q v s a t c → length bytes ≤ length b
       → writeOf (rulesOf q v t c a) s b ≡ writeLeft 0 (length bytes) (bytes ++ drop (length bytes) b)
-  unfolding writeOf rulesRight
   read-writes bytes xs ys n e h =
       let w = one-text bytes xs ys n q v s a t c e in
-      let p = both (sizeRight q v s) _ (w .right) in
-      let p2 = both (tablesLong t c) _ (p .1) in
       let room : length text ≤ length b = omega (arith, ap length (w .is-text)) in
-      rw (w .is-text) (all-passed _ _ _ (p .0, (p2 .0, (p2 .1, (le-leb _ _ room, tt)))))
+      rw (w .is-text) (right-writes (rulesOf q v t c a) s b (w .right) room)
 
 -- Places from Q × V on play no part: one rule set, handed to the writer in two ways
 pub write-alike : (h k : Handed) (b : List ℕ) → OneRuleSet h k → writeOf (h .rules) (h .start) b ≡ writeOf (k .rules) (k .start) b

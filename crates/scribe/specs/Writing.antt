@@ -8,6 +8,10 @@ use Rattle.rules.specs.Checks.{sizeRight, tablesLong, tablesRight}
 use Rattle.rules.specs.Answers.{Check, check, decided}
 use Rattle.sheet.specs.Sheets.{sheetText}
 
+-- as long as the text of any right rule set is at the most (`longest-sheet` in proofs/Longest.antt)
+abbrev pub longestSheet : ℕ
+longestSheet = 18212
+
 -- the answer number, the length of the text, and the buffer
 pub record Outcome : Type 0 where
   pub answer : ℕ

@@ -11,6 +11,9 @@ use crate::lines::put_sheet;
 use rules::Answer;
 use rules::Size;
 
+// As long as a sheet is at the most.
+pub const LONGEST_SHEET: usize = 18212;
+
 // What writing answers: under 0 the length of the text.
 pub struct Written {
     pub answer: Answer,

@@ -63,3 +63,7 @@ wrote-small b at n c p h u = let e : n % 10 ≡ n = omega arith in rw (decimal-s
 -- the buffer keeps its length
 pub wrote-length : (b : List ℕ) (at : ℕ) (xs c : List ℕ) (p : ℕ) → Wrote b at xs c p → length c ≡ length b
 wrote-length b at xs c p u = ap length (u .bytes) ∙ length-sets b at xs
+
+-- a text by another name
+pub wrote-is : (b : List ℕ) (at : ℕ) (x y c : List ℕ) (p : ℕ) → x ≡ y → Wrote b at x c p → Wrote b at y c p
+wrote-is b at x y c p e w = rw e at w

@@ -5,7 +5,7 @@ use super::lent::{Lent, Slice};
 use crate::answer::Answer;
 use crate::rules::Case;
 use crate::session::Request;
-use crate::{calls, job, mend, mendjob, report, session, sheet};
+use crate::{calls, job, mend, mendjob, pattern, patternjob, report, session, sheet};
 use std::fmt;
 
 /// A call with its own numbers. All else that it is handed stands on the bench.
@@ -17,11 +17,13 @@ pub enum Call {
     Mend { most: u32 },
     Check { claimed: u32 },
     Read,
+    Pattern,
     Write,
     Open,
     Ask(Request),
     Job,
     MendJob,
+    PatternJob,
 }
 
 /// What a call came to: its answer number, or the word that a job prints first.
@@ -49,6 +51,7 @@ impl Call {
             Call::Mend { .. } => "mend",
             Call::Check { .. } => "check",
             Call::Read => "read",
+            Call::Pattern => "pattern",
             Call::Write => "write",
             Call::Open => "open",
             Call::Ask(Request::Keep { .. }) => "keep",
@@ -57,6 +60,7 @@ impl Call {
             Call::Ask(Request::Back) => "back",
             Call::Job => "job",
             Call::MendJob => "mendjob",
+            Call::PatternJob => "patternjob",
         }
     }
 
@@ -82,17 +86,17 @@ impl Call {
             Call::Report => &[Targets, Costs, Roster],
             Call::Mend { .. } => &[Targets, Costs, Masks, Limits, Roster, Drawn, Plan],
             Call::Check { .. } => &[Targets, Costs, Masks, Limits, Roster, Drawn],
-            Call::Read => &[Targets, Costs, Input],
+            Call::Read | Call::Pattern => &[Targets, Costs, Input],
             Call::Write => &[Targets, Costs, Output],
             Call::Open => &[Targets, Costs, Masks, Limits, Work, Session],
             Call::Ask(_) => &[Targets, Costs, Work, Session],
-            Call::Job | Call::MendJob => &[Input, Output],
+            Call::Job | Call::MendJob | Call::PatternJob => &[Input, Output],
         }
     }
 
     /// Whether the call is handed the five numbers.
     pub fn uses_sizes(self) -> bool {
-        !matches!(self, Call::Read | Call::Job | Call::MendJob)
+        !matches!(self, Call::Read | Call::Job | Call::MendJob | Call::PatternJob)
     }
 
     /// Makes the call: what it came to, and the line that it prints. "Whether a slice is
@@ -120,6 +124,7 @@ impl Call {
         match self {
             Call::Job => return print(&job::run(&lent.input), &mut lent.output),
             Call::MendJob => return print(&mendjob::run(&lent.input), &mut lent.output),
+            Call::PatternJob => return print(&patternjob::run(&lent.input), &mut lent.output),
             _ => {}
         }
         let (answer, carried) = self.ask_plain_program(lent);
@@ -160,13 +165,21 @@ impl Call {
                 let (answer, carried) = sheet::read_sheet(input, targets, costs);
                 (answer, carried.numbers().to_vec())
             }
+            Call::Pattern => {
+                let (targets, costs) = (&mut rules.targets, &mut rules.costs);
+                let ask = pattern::read_pattern;
+                let (answer, carried) = ask(input, rules.values, targets, costs);
+                (answer, carried.to_vec())
+            }
             Call::Write => {
                 let (answer, length) = sheet::write_sheet(rules, output);
                 (answer, vec![length as u64])
             }
             Call::Open => (session::open(places, rules, masks, limits, session, work), vec![]),
             Call::Ask(request) => (session::ask(places, rules, session, work, request), vec![]),
-            Call::Job | Call::MendJob => unreachable!("a job has no answer number"),
+            Call::Job | Call::MendJob | Call::PatternJob => {
+                unreachable!("a job has no answer number")
+            }
         }
     }
 }

@@ -96,6 +96,7 @@ impl Interpreter {
             ("mend", &[most]) => Call::Mend { most: most as u32 },
             ("check", &[claimed]) => Call::Check { claimed: claimed as u32 },
             ("read", []) => Call::Read,
+            ("pattern", []) => Call::Pattern,
             ("write", []) => Call::Write,
             ("open", []) => Call::Open,
             ("keep", &[place, mask]) => {
@@ -108,6 +109,7 @@ impl Interpreter {
             ("back", []) => Call::Ask(Request::Back),
             ("job", []) => Call::Job,
             ("mendjob", []) => Call::MendJob,
+            ("patternjob", []) => Call::PatternJob,
             _ => return self.printed.push("unknown".to_owned()),
         };
         let mut lent = self.lent();

@@ -1,9 +1,11 @@
 //! The edges of every size: one change at a time in all that a call is lent or handed, and the
 //! smallest and the largest problems there are.
 
+use super::patternjobs::LONGEST_SHEET;
 use super::walks::{keep, limit, open_on_w, BACK, MARK};
 use crate::cases::Problem;
 use crate::rules::{Rules, MOST_COST, MOST_LIMIT, NO_ARC, TABLE};
+use crate::samples::COLLEAGUES;
 use crate::script::{Call, Lent, Script, Slice};
 use crate::session::{Entry, Request, Session};
 use crate::sheet::sheet_of;
@@ -28,7 +30,11 @@ pub const CALLS: [Call; 11] = [
 pub const MENDING_CALLS: [Call; 3] =
     [Call::Mend { most: 2 }, Call::Check { claimed: 2 }, Call::MendJob];
 
-/// W with everything right for every call: the session has a mark that can be taken back.
+/// The calls that came with request 7, behind those.
+pub const PATTERN_CALLS: [Call; 2] = [Call::Pattern, Call::PatternJob];
+
+/// W with everything right for every call but `PATTERN_CALLS`: the session has a mark that can be
+/// taken back.
 pub fn all_right() -> Lent {
     let mut lent = open_on_w();
     lent.work.fill(5);
@@ -39,6 +45,18 @@ pub fn all_right() -> Lent {
     lent.output = vec![b'?'; W.len()];
     stand(&mut lent, vec![Entry::Keep { place: 0, mask: 7 }, Entry::Mark]);
     lent
+}
+
+/// The same with an input that is right for the call.
+pub fn right_for(call: Call) -> Lent {
+    match call {
+        Call::Pattern => Lent { input: COLLEAGUES.as_bytes().to_vec(), ..all_right() },
+        Call::PatternJob => {
+            let (input, output) = (format!("3\t{COLLEAGUES}\n"), vec![b'?'; LONGEST_SHEET]);
+            Lent { input: input.into_bytes(), output, ..all_right() }
+        }
+        _ => all_right(),
+    }
 }
 
 /// Memory in which these entries stand.
@@ -54,7 +72,7 @@ pub fn faults(script: &mut Script) {
 
 pub fn faults_of(script: &mut Script, call: Call) {
     script.begin(&format!("edges of {}", call.name()));
-    let right = all_right();
+    let right = right_for(call);
     let mut changed = other_lengths(&right, call);
     if call.uses_sizes() {
         changed.extend(other_sizes(&right));

@@ -1,6 +1,7 @@
 //! Two faults at once: the check that comes first answers.
 
-use super::edges::{all_right, stand, CALLS};
+use super::edges::{right_for, stand, CALLS};
+use crate::samples::PATTERN_OF_65;
 use crate::script::{Call, Lent, Script};
 use crate::session::{Entry, Request, MOST_DECISIONS, MOST_MARKS};
 
@@ -11,13 +12,14 @@ pub fn refusals(call: Call) -> &'static [u32] {
         Call::First { .. } => &[1, 2, 3, 4, 7, 11],
         Call::Report => &[1, 2, 3, 7, 11],
         Call::Read => &[2, 5],
+        Call::Pattern => &[1, 2, 15, 14],
         Call::Write => &[1, 2, 3, 6],
         Call::Ask(Request::Keep { .. } | Request::Limit { .. }) => &[1, 2, 3, 12, 7, 8, 11],
         Call::Ask(Request::Mark) => &[1, 2, 3, 12, 9, 11],
         Call::Ask(Request::Back) => &[1, 2, 3, 12, 10, 11],
         Call::Mend { .. } => &[1, 2, 3, 4, 7, 11],
         Call::Check { .. } => &[1, 2, 3, 4, 7],
-        Call::Job | Call::MendJob => &[],
+        Call::Job | Call::MendJob | Call::PatternJob => &[],
     }
 }
 
@@ -31,7 +33,7 @@ pub fn pairs_of(script: &mut Script, call: Call) {
     let refusals = refusals(call);
     for (index, later) in refusals.iter().enumerate() {
         for earlier in &refusals[..=index] {
-            let (mut lent, mut asked) = (all_right(), call);
+            let (mut lent, mut asked) = (right_for(call), call);
             give_fault(*later, &mut lent, &mut asked);
             if earlier != later {
                 give_fault(*earlier, &mut lent, &mut asked);
@@ -45,6 +47,8 @@ pub fn pairs_of(script: &mut Script, call: Call) {
 /// before other faults, so that these stay in it.
 fn give_fault(answer: u32, lent: &mut Lent, call: &mut Call) {
     match answer {
+        // A pattern brings its own start.
+        1 if *call == Call::Pattern => lent.rules.values = 17,
         1 => lent.rules.start = 6,
         2 => lent.rules.targets.truncate(1_023),
         3 => lent.rules.costs[0] = 1_001,
@@ -56,6 +60,8 @@ fn give_fault(answer: u32, lent: &mut Lent, call: &mut Call) {
         9 => stand(lent, vec![Entry::Mark; MOST_MARKS]),
         10 => stand(lent, vec![]),
         11 => leave_no_roster(lent, *call),
+        14 => lent.input = PATTERN_OF_65.as_bytes().to_vec(),
+        15 => lent.input.push(b'|'),
         _ => lent.session[0] = 5,
     }
 }

@@ -1,4 +1,4 @@
-use super::edges::{CALLS, MENDING_CALLS};
+use super::edges::{CALLS, MENDING_CALLS, PATTERN_CALLS};
 use super::order::refusals;
 use super::*;
 use crate::script::{Call, CameTo};
@@ -7,12 +7,13 @@ use crate::worked::{DRAWN_CASES, FIRST_CASES, KEPT_CASES, MENDED_CASES};
 use std::collections::BTreeSet;
 use std::sync::OnceLock;
 
-/// "Checks run in the order 1, 2, 3, 4, 5, 12, 7, 8, 9, 10, 6, 11."
-const ORDER: [u32; 12] = [1, 2, 3, 4, 5, 12, 7, 8, 9, 10, 6, 11];
+/// "Checks run in the order 1, 2, 3, 4, 5, 12, 7, 8, 9, 10, 6, 11." Of request 7's own answers 15
+/// comes before 14, both behind 1 and 2; no call has them with any other.
+const ORDER: [u32; 14] = [1, 2, 3, 4, 5, 15, 14, 12, 7, 8, 9, 10, 6, 11];
 
 /// Every call.
 fn all_calls() -> impl Iterator<Item = Call> {
-    CALLS.into_iter().chain(MENDING_CALLS)
+    CALLS.into_iter().chain(MENDING_CALLS).chain(PATTERN_CALLS)
 }
 
 /// The fixed cases alone, written once for all tests.
@@ -53,7 +54,10 @@ fn every_call_meets_every_answer_that_it_can_give_and_no_other() {
         let words = [done, "none", "long", "sheet", "job"];
         expected.extend(words.map(|word| (name, CameTo::Word(word.to_owned()))));
     }
-    for call in all_calls().filter(|call| !matches!(call, Call::Job | Call::MendJob)) {
+    let words = ["size", "values", "pattern", "states"];
+    expected.extend(words.map(|word| ("patternjob", CameTo::Word(word.to_owned()))));
+    let is_job = |call: &Call| matches!(call, Call::Job | Call::MendJob | Call::PatternJob);
+    for call in all_calls().filter(|call| !is_job(call)) {
         let answers = refusals(call).iter().chain(&[0]);
         expected.extend(answers.map(|answer| (call.name(), CameTo::Answer(*answer))));
     }

@@ -1,5 +1,5 @@
+use Rattle.text.proofs.Putting.{wrote-is}
 use Rattle.job.specs.Inner.{program}
-use Rattle.job.proofs.Showing.{wrote-is}
 use Rattle.job.proofs.Reading.{long-input, short-input}
 use borrow.Author.Needs.{needs}
 use Rattle.job.proofs.job_for.Statement.{statement}

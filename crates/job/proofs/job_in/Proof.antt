@@ -4,9 +4,9 @@ use Prim.Native.Nat.{ℕ}
 use lib.Seq.{length-take-le}
 use borrow.Author.Tests.{not-true, not-false}
 use Rattle.sheet.specs.Reading.{readOf}
+use Rattle.text.proofs.Putting.{wrote-is}
 use Rattle.job.specs.Output.{sheetLine, jobLine}
 use Rattle.job.specs.Inner.{program}
-use Rattle.job.proofs.Showing.{wrote-is}
 use Rattle.job.proofs.Reading.{sheet-wrong, job-missing, job-there, read-right, rest-is}
 use borrow.Author.Needs.{needs}
 use Rattle.job.proofs.job_in.Statement.{statement}

@@ -1,6 +1,5 @@
-use Rattle.text.proofs.Putting.{wrote-none, wrote-append}
+use Rattle.text.proofs.Putting.{wrote-none, wrote-append, wrote-is}
 use Rattle.job.specs.Mend.{changeLine}
-use Rattle.job.proofs.Showing.{wrote-is}
 use Rattle.job.proofs.Telling.{change-none, change-some}
 use native.Mathlib.Omega.{arith}
 use borrow.Author.Needs.{needs}

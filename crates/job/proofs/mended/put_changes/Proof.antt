@@ -4,9 +4,8 @@ use Prim.Native.Nat.{ℕ, _≤_, _-_}
 use lib.ListN.{length, take}
 use lib.Seq.{take-all}
 use Rattle.text.specs.Writing.{Wrote}
-use Rattle.text.proofs.Putting.{wrote-none, wrote-append, wrote-length}
+use Rattle.text.proofs.Putting.{wrote-none, wrote-append, wrote-length, wrote-is}
 use Rattle.job.specs.Mend.{changeLines}
-use Rattle.job.proofs.Showing.{wrote-is}
 use Rattle.job.proofs.Telling.{change-more}
 use borrow.Author.Needs.{needs}
 use native.Mathlib.Omega.{arith}

@@ -7,8 +7,7 @@ use Rattle.meaning.specs.Lists.{each}
 use Rattle.text.specs.Bytes.{tab}
 use Rattle.text.specs.Numbers.{decimal}
 use Rattle.text.specs.Writing.{Wrote}
-use Rattle.text.proofs.Putting.{wrote-none, wrote-append, wrote-length}
-use Rattle.job.proofs.Showing.{wrote-is}
+use Rattle.text.proofs.Putting.{wrote-none, wrote-append, wrote-length, wrote-is}
 use Rattle.job.proofs.Telling.{each-more}
 use borrow.Author.Needs.{needs}
 use native.Mathlib.Omega.{arith}

@@ -1,8 +1,7 @@
 use mathlib.Core.Path.{sym, _∙_}
 use lib.Seq.{length-take-le}
-use Rattle.text.proofs.Putting.{wrote-append}
+use Rattle.text.proofs.Putting.{wrote-append, wrote-is}
 use Rattle.job.specs.Mend.{changesLine}
-use Rattle.job.proofs.Showing.{wrote-is}
 use Rattle.job.proofs.Proposing.{mend-passes, shows-mended, shows-unmended}
 use native.Mathlib.Omega.{arith}
 use borrow.Author.Needs.{needs}

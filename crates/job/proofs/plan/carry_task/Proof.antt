@@ -1,4 +1,4 @@
-use Rattle.job.proofs.Showing.{wrote-is}
+use Rattle.text.proofs.Putting.{wrote-is}
 use Rattle.job.proofs.Planning.{task-is}
 use borrow.Author.Needs.{needs}
 use Rattle.job.proofs.plan.carry_task.Statement.{statement}

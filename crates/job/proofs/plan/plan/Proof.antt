@@ -1,9 +1,9 @@
 use mathlib.Core.Path.{sym, _∙_}
 use lib.Seq.{length-take-le}
 use Rattle.meaning.specs.Meaning.{rulesOf}
+use Rattle.text.proofs.Putting.{wrote-is}
 use Rattle.job.specs.Output.{jobLine}
 use Rattle.job.specs.Inner.{program}
-use Rattle.job.proofs.Showing.{wrote-is}
 use Rattle.job.proofs.Planning.{days-is, days-range, job-empty, job-wrong, job-right}
 use native.Mathlib.Omega.{arith}
 use borrow.Author.Needs.{needs}

@@ -5,10 +5,10 @@ use lib.Seq.{length-take-le}
 use Rattle.meaning.specs.Meaning.{rulesOf}
 use Rattle.meaning.specs.Bounds.{top}
 use Rattle.text.specs.Lines.{lines}
+use Rattle.text.proofs.Putting.{wrote-is}
 use Rattle.job.specs.Input.{mostDays}
 use Rattle.job.specs.Output.{jobLine}
 use Rattle.job.proofs.Asking.{full-is}
-use Rattle.job.proofs.Showing.{wrote-is}
 use Rattle.job.proofs.Planning.{right-size, right-sizes, length-of, first-of, mend-wrong, mend-all, carried-right}
 use native.Mathlib.Omega.{arith}
 use borrow.Author.Needs.{needs}

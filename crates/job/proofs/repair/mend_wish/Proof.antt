@@ -6,10 +6,10 @@ use lib.Seq.{length-take-le}
 use Rattle.meaning.specs.Meaning.{rulesOf, places}
 use Rattle.rules.proofs.Checks.{size-of, sizes-of}
 use Rattle.text.specs.Lines.{lines}
+use Rattle.text.proofs.Putting.{wrote-is}
 use Rattle.job.specs.Input.{mostDays}
 use Rattle.job.specs.Output.{jobLine}
 use Rattle.job.specs.Mend.{readWish, wishText}
-use Rattle.job.proofs.Showing.{wrote-is}
 use Rattle.job.proofs.Wishing.{told-wrong, told-right, wished}
 use native.Mathlib.Omega.{arith}
 use borrow.Author.Needs.{needs}

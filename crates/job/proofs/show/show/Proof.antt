@@ -1,9 +1,9 @@
 use mathlib.Core.Path.{sym, _∙_}
 use native.Mathlib.Omega.{arith}
 use lib.Seq.{length-take-le}
-use Rattle.text.proofs.Putting.{wrote-append}
+use Rattle.text.proofs.Putting.{wrote-append, wrote-is}
 use Rattle.job.specs.Output.{leastLine}
-use Rattle.job.proofs.Showing.{passed, shows-kept, shows-none, wrote-is}
+use Rattle.job.proofs.Showing.{passed, shows-kept, shows-none}
 use borrow.Author.Needs.{needs}
 use Rattle.job.proofs.show.show.Statement.{statement}
 use Rattle.job.proofs.show.show.Tie as tie

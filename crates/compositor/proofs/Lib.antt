@@ -1,0 +1,10 @@
+pub mod Joining
+pub mod Tables
+pub mod Seek
+pub mod Steps
+pub mod Ring
+pub mod Noting
+pub mod Filling
+pub mod Lining
+pub mod Outcomes
+pub mod Unique

@@ -1,0 +1,3 @@
+pub mod Making
+pub mod Drafts
+pub mod Unique

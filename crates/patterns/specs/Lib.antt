@@ -1,0 +1,5 @@
+pub mod Pattern
+pub mod Line
+pub mod Places
+pub mod Outcome
+pub mod Worked
