@@ -60,12 +60,12 @@ extern "C" {
 #define REEDGOSLING_LONGEST_INPUT 32768
 #define REEDGOSLING_LONGEST_OUTPUT 2048
 
-/* The answers. A call makes its checks in the order 1, 2, 3, 4, 5, 15, 14, 12, 7, 8, 9, 10, 6, 11 and skips those that do not concern it; the
-   first that fails is the answer. All but 0 and 11 are refusals.
+/* The answers. A call makes its checks in the order 1, 2, 3, 4, 5, 13, 15, 14, 12, 7, 8, 9, 10, 6, 11 and skips those that do not concern it;
+   the first that fails is the answer (13 stands with 5: no sheet gets both). All but 0 and 11 are refusals.
    What an answer leaves unchanged are slices: under 1 and 2 every slice, under the other refusals those named below. The work table is a
    slice too, but no output: it is all zeros after every answer but 1 and 2.
    A single number that a call gives back through a pointer without a length (least, report, changes, says, line, states, values, start,
-   accepting, length) is written under every answer: under a refusal or 11 it is 0, save the line under 5. */
+   accepting, length) is written under every answer: under a refusal or 11 it is 0, save the line under 5 and 13. */
 enum reedgosling_answer {
     REEDGOSLING_DONE = 0,            /* done */
     REEDGOSLING_WRONG_SIZE = 1,      /* n, Q or V outside its range, or start not below Q: no slice changed */
@@ -73,7 +73,8 @@ enum reedgosling_answer {
     REEDGOSLING_WRONG_TABLES = 3,    /* a target neither 255 nor below Q, a cost over 1,000, a cost at a missing arc, or an accepting bit at
                                         or above Q: outputs unchanged */
     REEDGOSLING_WRONG_MASK = 4,      /* a choice mask has a bit at or above V: outputs unchanged */
-    REEDGOSLING_WRONG_SHEET = 5,     /* the sheet is wrong; its first wrong line is told, from 1: tables unchanged */
+    REEDGOSLING_WRONG_SHEET = 5,     /* the sheet is wrong by its form, its order or a missing line feed; its first wrong line is told,
+                                        from 1: tables unchanged */
     REEDGOSLING_SHORT_BUFFER = 6,    /* the sheet to be written is longer than the buffer: buffer unchanged */
     REEDGOSLING_OUT_OF_RANGE = 7,    /* a place, value or decision mask out of range, a roster value not below V, or more than
                                         REEDGOSLING_MOST_CHANGES changes asked for: outputs and session unchanged */
@@ -84,6 +85,8 @@ enum reedgosling_answer {
                                         report: none of length n is accepted; for the planner: none with so few changes). A result and no
                                         refusal: each call says what it leaves behind */
     REEDGOSLING_WRONG_MEMORY = 12,   /* the session memory is not well-formed: session unchanged */
+    REEDGOSLING_NUMBER_OUTSIDE = 13, /* the sheet is wrong by a number out of range (the first fault of its first wrong line); that line is
+                                        told, from 1: tables unchanged */
     REEDGOSLING_MANY_STATES = 14,    /* the pattern has more than 64 states: tables unchanged */
     REEDGOSLING_WRONG_PATTERN = 15   /* the line is no pattern, or has a letter at or above V: tables unchanged */
 };
@@ -144,8 +147,9 @@ uint32_t reedgosling_check(
 
 /* Reads a sheet from its text.
    Lent: text of any length, targets and costs with REEDGOSLING_TABLE_SIZE entries each.
-   Returns 0, 2 or 5. Under 0 the first Q * V entries of both tables are written and the others unchanged, and states, values, start and
-   accepting have Q, V, the start state and the accepting mask; under 5 line has the first wrong line, from 1. */
+   Returns 0, 2, 5 or 13. Under 0 the first Q * V entries of both tables are written and the others unchanged, and states, values, start and
+   accepting have Q, V, the start state and the accepting mask; under 5 and 13 line has the first wrong line, from 1. Of several faults of a
+   line the first counts: those of its fields from left to right, then its order, then a missing line feed. */
 uint32_t reedgosling_read_sheet(
     const uint8_t *text, size_t text_length, uint8_t *targets, size_t targets_length, uint16_t *costs, size_t costs_length,
     size_t *line, size_t *states, size_t *values, uint8_t *start, uint64_t *accepting);

@@ -145,6 +145,8 @@ class Rota:
 def single_calls(rota, masks, limits):
     answer, line = rota.read(SHEET[:-1])
     print(f"W without its last line feed: answer {answer}, line {line}")
+    answer, line = rota.read(SHEET.replace(b"arc\t1\t0\t2", b"arc\t1\t0\t6"))
+    print(f"W with an arc to state 6: answer {answer}, line {line}")
     answer, line = rota.read(SHEET)
     print(f"W read: answer {answer}, {rota.states.value} states, {rota.values.value} values, start {rota.start.value}, "
           f"accepting mask {rota.accepting.value}")

@@ -5,7 +5,7 @@ use crate::mend::Drawn;
 use crate::pairs::Pairs;
 use crate::pattern::{is_word, parse, rules_of};
 use crate::rules::{narrowed, Case, Rules};
-use crate::{report, tables, words};
+use crate::{faults, report, sheet, tables, words};
 
 const MOST_WORDS: usize = 4_096;
 const MOST_PAIRS: usize = 4_096;
@@ -50,6 +50,12 @@ pub fn checks_agree(drawn: &Drawn, roster: &[u8], claimed: u32) -> bool {
     let Drawn { case, roster: was } = drawn;
     !words_are_few(case.places(), case.rules)
         || words::proposal_is_right(case, was, roster, claimed) == drawn.is_right(roster, claimed)
+}
+
+/// Whether the reader's wrong line and fault are the first of all.
+pub fn readings_agree(text: &[u8]) -> bool {
+    let wrong = sheet::parse(text).err().map(|wrong| (wrong.line, wrong.fault));
+    wrong == faults::first_fault(text)
 }
 
 /// Whether the sheet of a line accepts exactly the words of the pattern, of all short words.

@@ -16,6 +16,7 @@ pub enum Answer {
     NoMark = 10,
     NoRoster = 11,
     Memory = 12,
+    Outside = 13,
     States = 14,
     Pattern = 15,
 }

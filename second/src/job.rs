@@ -1,7 +1,7 @@
 //! The program of the paper: input bytes to output bytes.
 
 use crate::rules::{Case, Found, Rules, MOST_LIMIT};
-use crate::sheet::{fields, lines, number_up_to, parse, Line};
+use crate::sheet::{self, fields, lines, number_up_to, parse, Fault, Line};
 use crate::tables;
 
 /// "Input over 32,768 bytes prints `long`."
@@ -14,7 +14,7 @@ const MOST_DECISIONS: usize = 512;
 /// Why a program did not come to its work.
 enum Wrong {
     Long,
-    Sheet(usize),
+    Sheet(sheet::Wrong),
     Job(usize),
 }
 
@@ -48,10 +48,17 @@ pub fn print(
         Ok(Some(text)) => text,
         Ok(None) => "none\n".to_owned(),
         Err(Wrong::Long) => "long\n".to_owned(),
-        Err(Wrong::Sheet(line)) => format!("sheet\t{line}\n"),
+        Err(Wrong::Sheet(wrong)) => print_wrong(wrong),
         Err(Wrong::Job(line)) => format!("job\t{line}\n"),
     };
     text.into_bytes()
+}
+
+/// "a wrong sheet prints `sheet` and the line"; where a number is out of range "the program prints
+/// `range` and the line".
+fn print_wrong(wrong: sheet::Wrong) -> String {
+    let word = if wrong.fault == Fault::Range { "range" } else { "sheet" };
+    format!("{word}\t{}\n", wrong.line)
 }
 
 fn worked(
@@ -126,7 +133,7 @@ impl Job {
 #[cfg(test)]
 mod tests {
     use super::*;
-    use crate::samples::{WRONG_DAYS_LINES, WRONG_JOB_LINES};
+    use crate::samples::{WRONG_DAYS_LINES, WRONG_JOB_LINES, WRONG_LATER_LINES, WRONG_SIZE_LINES};
     use crate::worked::W;
 
     fn print(input: &str) -> String {
@@ -174,6 +181,31 @@ mod tests {
     fn p4_days_without_the_empty_line_is_a_sheet_line() {
         assert_eq!(print(&format!("{W}days\t3\n")), "sheet\t19\n");
         assert_eq!(print(&format!("{W}days\t3\n\ndays\t3\n")), "sheet\t19\n");
+    }
+
+    #[test]
+    fn a_number_out_of_range_in_the_sheet_prints_range_and_the_line() {
+        assert_eq!(print("size\t6\t3\t6\n\ndays\t3\n"), "range\t1\n");
+        assert_eq!(print("size\t6\t3\t6"), "range\t1\n");
+        assert_eq!(print(&format!("{W}arc\t5\t2\t6\t0\n\ndays\t3\n")), "range\t19\n");
+        assert_eq!(print(&format!("{W}arc\t5\t2\t6\t0")), "range\t19\n");
+        assert_eq!(print(&format!("{W}arc\t5\t1\t5\t0\n\ndays\t3\n")), "sheet\t19\n");
+        // The sheet comes before the job, and of a job line it is only told that it is wrong.
+        assert_eq!(print("size\t65\t3\t0\n\ndays\t0\n"), "range\t1\n");
+        assert_eq!(on_w("days\t129\n"), "job\t1\n");
+    }
+
+    #[test]
+    fn wrong_sheets_print_by_their_answer() {
+        let word = |answer: u32| if answer == 13 { "range" } else { "sheet" };
+        for (text, answer) in WRONG_SIZE_LINES {
+            assert_eq!(print(text), format!("{}\t1\n", word(*answer)), "{text:?}");
+        }
+        // An empty line ends the sheet and is no line of it.
+        for (line, answer) in WRONG_LATER_LINES.iter().filter(|(line, _)| *line != "\n") {
+            let text = format!("size\t6\t3\t0\n{line}");
+            assert_eq!(print(&text), format!("{}\t2\n", word(*answer)), "{text:?}");
+        }
     }
 
     #[test]

@@ -8,6 +8,7 @@ pub mod agree;
 pub mod answer;
 pub mod calls;
 pub mod cases;
+pub mod faults;
 pub mod job;
 pub mod mend;
 pub mod mendjob;

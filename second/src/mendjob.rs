@@ -123,6 +123,15 @@ mod tests {
     }
 
     #[test]
+    fn a_number_out_of_range_in_the_sheet_prints_range_and_the_line() {
+        let job = "days\t3\ndrawn\t2\t2\t0\nmost\t7\n";
+        assert_eq!(print(&format!("{W}arc\t5\t2\t5\t1001\n\n{job}")), "range\t19\n");
+        assert_eq!(print(&format!("{W}arc\t5\t2\t5\tx\n\n{job}")), "sheet\t19\n");
+        assert_eq!(print("size\t0"), "range\t1\n");
+        assert_eq!(on_w("days\t3\ndrawn\t2\t2\t3\nmost\t7\n"), "job\t2\n");
+    }
+
+    #[test]
     fn each_line_comes_once_and_in_its_place() {
         assert_eq!(on_w("days\t3\nmost\t1\ndrawn\t2\t2\t0\n"), "job\t2\n");
         assert_eq!(on_w("days\t3\ndrawn\t2\t2\t0\ndrawn\t2\t2\t0\nmost\t1\n"), "job\t3\n");

@@ -9,65 +9,288 @@ pub const RIGHT_SHEETS: &[&str] = &[
     "size\t6\t3\t5\nfinal\t0\nfinal\t5\n",
 ];
 
-/// Sheets that are wrong at their first line.
-pub const WRONG_SIZE_LINES: &[&str] = &[
-    "",
-    "\n",
-    "size\t6\t3\t0",
-    "size\t0\t3\t0\n",
-    "size\t65\t3\t0\n",
-    "size\t6\t0\t0\n",
-    "size\t6\t17\t0\n",
-    "size\t6\t3\t6\n",
-    "size\t06\t3\t0\n",
-    "size\t6\t3\n",
-    "size\t6\t3\t0\t\n",
-    "size\t6\t3\t0\t0\n",
-    "size 6 3 0\n",
-    "Size\t6\t3\t0\n",
-    "size\t6\t3\t0\r\n",
-    " size\t6\t3\t0\n",
-    "size\t\t6\t3\t0\n",
-    "size\t+6\t3\t0\n",
-    "final\t0\n",
-    "size\t6\t3\t\n",
-    "size\t6\t3\t00\n",
-    "sizes\t6\t3\t0\n",
-    "size\t18446744073709551622\t3\t0\n",
-    "size\t6\t3\t0\0\n",
+/// Sheets that are wrong at their first line, and the answer by its first fault: 5 for form, order
+/// and a missing line feed, 13 for a number out of range.
+pub const WRONG_SIZE_LINES: &[(&str, u32)] = &[
+    ("", 5),
+    ("\n", 5),
+    ("size\t6\t3\t0", 5),
+    ("size\t0\t3\t0\n", 13),
+    ("size\t65\t3\t0\n", 13),
+    ("size\t6\t0\t0\n", 13),
+    ("size\t6\t17\t0\n", 13),
+    ("size\t6\t3\t6\n", 13),
+    ("size\t06\t3\t0\n", 5),
+    ("size\t6\t3\n", 5),
+    ("size\t6\t3\t0\t\n", 5),
+    ("size\t6\t3\t0\t0\n", 5),
+    ("size 6 3 0\n", 5),
+    ("Size\t6\t3\t0\n", 5),
+    ("size\t6\t3\t0\r\n", 5),
+    (" size\t6\t3\t0\n", 5),
+    ("size\t\t6\t3\t0\n", 5),
+    ("size\t+6\t3\t0\n", 5),
+    ("final\t0\n", 5),
+    ("size\t6\t3\t\n", 5),
+    ("size\t6\t3\t00\n", 5),
+    ("sizes\t6\t3\t0\n", 5),
+    ("size\t18446744073709551622\t3\t0\n", 13),
+    ("size\t6\t3\t0\0\n", 5),
+    // Short lines: a field is tested before the next one is missed.
+    ("size", 5),
+    ("size\n", 5),
+    ("size\t", 5),
+    ("size\t6", 5),
+    ("size\t6\n", 5),
+    ("size\t0", 13),
+    ("size\t0\n", 13),
+    ("size\t00\n", 5),
+    ("size\t65", 13),
+    ("size\t6\t0\n", 13),
+    ("size\t6\t17", 13),
+    // Behind a first fault nothing else is looked at.
+    ("size\t0\tx\t9\n", 13),
+    ("size\t0\t0\t0\n", 13),
+    ("size\tx\t0\t9\n", 5),
+    ("size\t6\tx\t9\n", 5),
+    ("size\t6\t17\tx\n", 13),
+    ("size\t6\t\t6\n", 5),
+    ("size\t6\t3\t6\t\n", 13),
+    ("size\t65\t17\t65\t1\n", 13),
+    ("final\t99\n", 5),
+    ("arc\t99", 5),
+    ("Size\t0\t0\t0\n", 5),
+    // The line feed comes last.
+    ("size\t6\t3\t6", 13),
+    ("size\t6\t3\t0\t0", 5),
+    ("size\t0\t3\t0", 13),
+    // A field is judged whole.
+    ("size\t65x\t3\t0\n", 5),
+    ("size\t065\t3\t0\n", 5),
+    ("size\t6\t99 \t0\n", 5),
+    ("size\t6\t3\t99\r\n", 5),
+    // Right if cut to 8, 16, 32 or 64 bits.
+    ("size\t262\t3\t0\n", 13),
+    ("size\t6\t65539\t0\n", 13),
+    ("size\t6\t3\t4294967296\n", 13),
+    ("size\t6\t3\t18446744073709551616\n", 13),
+    ("size\t64\t16\t64\n", 13),
+    ("size\t1\t1\t1\n", 13),
+    // What stands behind a wrong line is not read.
+    ("size\t6\t3\t0\t0\nfinal\t99\n", 5),
+    ("size\t6\t3\t6\nfinal\tx\n", 13),
 ];
 
-/// Second lines that are wrong after a size line of 6 states and 3 values.
-pub const WRONG_LATER_LINES: &[&str] = &[
-    "\n",
-    "size\t6\t3\t0\n",
-    "final\t6\n",
-    "final\t0",
-    "final\n",
-    "final\t\n",
-    "final\t0\t\n",
-    "final\t01\n",
-    "final\t-1\n",
-    "arc\t0\t0\t1\n",
-    "arc\t6\t0\t1\t1\n",
-    "arc\t0\t3\t1\t1\n",
-    "arc\t0\t0\t6\t1\n",
-    "arc\t0\t0\t255\t0\n",
-    "arc\t0\t0\t1\t1001\n",
-    "arc\t0\t0\t1\t1\t\n",
-    "arc\t0\t0\t1\t1",
-    "ark\t0\t0\t1\t1\n",
-    "arc\t0\t0\t1\t99999999999999999999\n",
+/// Second lines that are wrong after a size line of 6 states and 3 values, and their answers.
+pub const WRONG_LATER_LINES: &[(&str, u32)] = &[
+    ("\n", 5),
+    ("size\t6\t3\t0\n", 5),
+    ("final\t6\n", 13),
+    ("final\t0", 5),
+    ("final\n", 5),
+    ("final\t\n", 5),
+    ("final\t0\t\n", 5),
+    ("final\t01\n", 5),
+    ("final\t-1\n", 5),
+    ("arc\t0\t0\t1\n", 5),
+    ("arc\t6\t0\t1\t1\n", 13),
+    ("arc\t0\t3\t1\t1\n", 13),
+    ("arc\t0\t0\t6\t1\n", 13),
+    ("arc\t0\t0\t255\t0\n", 13),
+    ("arc\t0\t0\t1\t1001\n", 13),
+    ("arc\t0\t0\t1\t1\t\n", 5),
+    ("arc\t0\t0\t1\t1", 5),
+    ("ark\t0\t0\t1\t1\n", 5),
+    ("arc\t0\t0\t1\t99999999999999999999\n", 13),
+    // Short lines.
+    ("arc", 5),
+    ("arc\n", 5),
+    ("arc\t0\n", 5),
+    ("arc\t99\n", 13),
+    ("arc\t99", 13),
+    ("arc\tx\n", 5),
+    ("arc\t0\t99\n", 13),
+    ("arc\t0\t99", 13),
+    ("arc\t0\t0\t6\n", 13),
+    ("arc\t0\t0\t1", 5),
+    // Fields too many come after the last proper one.
+    ("final\t99\t7\n", 13),
+    ("final\t1\t7\n", 5),
+    ("final\t1\t99\n", 5),
+    ("final\tx\t99\n", 5),
+    ("final\t99\tx\n", 13),
+    ("arc\t0\t0\t1\t1001\t\n", 13),
+    ("arc\t0\t0\t1\t1\t1001\n", 5),
+    // The line feed comes last.
+    ("final\t99", 13),
+    ("final\tx", 5),
+    ("final\t1\t7", 5),
+    ("arc\t0\t0\t0\t1001", 13),
+    // From left to right.
+    ("arc\t6\tx\t1\t1\n", 13),
+    ("arc\tx\t3\t6\t1001\n", 5),
+    ("arc\t0\t3\t\t1\n", 13),
+    ("arc\t0\t\t6\t1\n", 5),
+    ("arc\t0\t0\t6\t+1\n", 13),
+    ("arc\t0\t0\t01\t1001\n", 5),
+    ("arc\t\t99\t99\t9999\n", 5),
+    // Any other first field is a fault of form.
+    ("size\t0\t0\t0\n", 5),
+    ("size\t99\n", 5),
+    ("Final\t99\n", 5),
+    ("finals\t99\n", 5),
+    ("arcs\t99\t0\t0\t0\n", 5),
+    ("\tfinal\t99\n", 5),
+    ("\t99\n", 5),
+    ("99\n", 5),
+    ("days\t999\n", 5),
+    ("keep\t99\t99\n", 5),
+    // A field is judged whole.
+    ("final\t999x\n", 5),
+    ("final\tx999\n", 5),
+    ("final\t099\n", 5),
+    ("final\t99\r\n", 5),
+    ("final\t 99\n", 5),
+    ("arc\t0\t0\t1\t99999999999999999999999x\n", 5),
+    ("arc\t0\t0\t1\t099999999999999999999999\n", 5),
+    ("arc\t0\t0\t1\t+1001\n", 5),
+    // Numbers of many digits, and those that are right if cut to 8, 16, 32 or 64 bits.
+    ("arc\t0\t0\t1\t99999999999999999999999\n", 13),
+    ("arc\t0\t0\t1\t1000000000\n", 13),
+    ("arc\t0\t0\t1\t10000000000000000000000000000000000000000\n", 13),
+    ("final\t256\n", 13),
+    ("final\t65536\n", 13),
+    ("final\t4294967296\n", 13),
+    ("final\t18446744073709551616\n", 13),
+    ("final\t340282366920938463463374607431768211456\n", 13),
+    ("arc\t0\t256\t1\t1\n", 13),
+    ("arc\t0\t0\t4294967297\t1\n", 13),
+    ("arc\t0\t0\t1\t65536\n", 13),
 ];
 
-/// Sheets whose last line breaks the order, and its number.
-pub const OUT_OF_ORDER: &[(&str, usize)] = &[
-    ("size\t6\t3\t0\nfinal\t2\nfinal\t2\n", 3),
-    ("size\t6\t3\t0\nfinal\t2\nfinal\t1\n", 3),
-    ("size\t6\t3\t0\nfinal\t2\narc\t1\t1\t0\t0\narc\t1\t1\t0\t0\n", 4),
-    ("size\t6\t3\t0\nfinal\t2\narc\t1\t1\t0\t0\narc\t1\t0\t0\t0\n", 4),
-    ("size\t6\t3\t0\nfinal\t2\narc\t1\t1\t0\t0\narc\t0\t2\t0\t0\n", 4),
-    ("size\t6\t3\t0\nfinal\t2\narc\t1\t1\t0\t0\nfinal\t3\n", 4),
+/// Sheets whose last line breaks the order, its number, and the answer: a number of the line that
+/// is out of range comes before its order.
+pub const OUT_OF_ORDER: &[(&str, usize, u32)] = &[
+    ("size\t6\t3\t0\nfinal\t2\nfinal\t2\n", 3, 5),
+    ("size\t6\t3\t0\nfinal\t2\nfinal\t1\n", 3, 5),
+    ("size\t6\t3\t0\nfinal\t2\narc\t1\t1\t0\t0\narc\t1\t1\t0\t0\n", 4, 5),
+    ("size\t6\t3\t0\nfinal\t2\narc\t1\t1\t0\t0\narc\t1\t0\t0\t0\n", 4, 5),
+    ("size\t6\t3\t0\nfinal\t2\narc\t1\t1\t0\t0\narc\t0\t2\t0\t0\n", 4, 5),
+    ("size\t6\t3\t0\nfinal\t2\narc\t1\t1\t0\t0\nfinal\t3\n", 4, 5),
+    // Without a line feed, with a field too many, with a cost, a target and a state out of range.
+    ("size\t6\t3\t0\nfinal\t2\nfinal\t1", 3, 5),
+    ("size\t6\t3\t0\nfinal\t2\nfinal\t1\t9", 3, 5),
+    ("size\t6\t3\t0\nfinal\t2\nfinal\t1\t99\n", 3, 5),
+    ("size\t6\t3\t0\narc\t1\t1\t0\t0\narc\t1\t1\t0\t0\t1001\n", 3, 5),
+    ("size\t6\t3\t0\narc\t1\t1\t0\t0\narc\t1\t1\t0\t1001\n", 3, 13),
+    ("size\t6\t3\t0\narc\t1\t1\t0\t0\narc\t0\t2\t6\t0\n", 3, 13),
+    ("size\t6\t3\t0\narc\t1\t1\t0\t0\narc\t0\t2\t0\t1001", 3, 13),
+    ("size\t6\t3\t0\narc\t1\t1\t0\t0\narc\t0\t2\t0\t1001\t0\n", 3, 13),
+    ("size\t6\t3\t0\narc\t1\t1\t0\t0\nfinal\t6\n", 3, 13),
+    ("size\t6\t3\t0\narc\t1\t1\t0\t0\nfinal\t5", 3, 5),
+];
+
+/// Right sheets with one of their numbers left out, and the most that it can be.
+pub const NUMBERS: &[(&str, u128)] = &[
+    ("size\t@\t3\t0\n", 64),
+    ("size\t6\t@\t0\n", 16),
+    ("size\t6\t3\t@\n", 5),
+    ("size\t6\t3\t0\nfinal\t@\n", 5),
+    ("size\t6\t3\t0\narc\t@\t0\t0\t0\n", 5),
+    ("size\t6\t3\t0\narc\t0\t@\t0\t0\n", 2),
+    ("size\t6\t3\t0\narc\t0\t0\t@\t0\n", 5),
+    ("size\t6\t3\t0\narc\t0\t0\t0\t@\n", 1_000),
+];
+
+/// A line of a sheet taken apart into what is tested one after the other.
+pub struct Tested {
+    /// The lines before it, but for the last.
+    pub before: &'static str,
+    /// The parts of a right line: its fields, what may be too much, the last line before it (for
+    /// the order), its line feed.
+    pub right: &'static [&'static str],
+    /// A part, what it becomes, and the answer.
+    pub faults: &'static [(usize, &'static str, u32)],
+}
+
+impl Tested {
+    /// Each fault alone and each two of different parts: the sheet, the number of the wrong line, and
+    /// the answer of the part that is tested first.
+    pub fn faulty(&self) -> Vec<(String, usize, u32)> {
+        let mut faulty = Vec::new();
+        for first in self.faults {
+            let (part, text, answer) = *first;
+            for second in self.faults.iter().filter(|fault| fault.0 > part || *fault == first) {
+                let mut parts = self.right.to_vec();
+                (parts[part], parts[second.0]) = (text, second.1);
+                let (sheet, line) = self.sheet(&parts);
+                faulty.push((sheet, line, answer));
+            }
+        }
+        faulty
+    }
+
+    /// The sheet with these parts for its last line, and the number of that line.
+    fn sheet(&self, parts: &[&str]) -> (String, usize) {
+        let [fields @ .., line_before, line_feed] = parts else {
+            panic!("the last two parts are not the line's own");
+        };
+        let before = format!("{}{line_before}", self.before);
+        let line = before.matches('\n').count() + 1;
+        (format!("{before}{}{line_feed}", fields.concat()), line)
+    }
+}
+
+/// The three kinds of line, each part with each kind of fault that it can have.
+pub const TESTED: &[Tested] = &[
+    Tested {
+        before: "",
+        right: &["size", "\t6", "\t3", "\t5", "", "", "\n"],
+        faults: &[
+            (0, "sizes", 5),
+            (1, "\t06", 5),
+            (1, "\t0", 13),
+            (1, "\t65", 13),
+            (2, "\t3x", 5),
+            (2, "\t0", 13),
+            (2, "\t17", 13),
+            (3, "\t", 5),
+            (3, "\t99", 13),
+            (4, "\t1", 5),
+            (6, "", 5),
+        ],
+    },
+    Tested {
+        before: "size\t6\t3\t0\n",
+        right: &["final", "\t3", "", "final\t2\n", "\n"],
+        faults: &[
+            (0, "size", 5),
+            (1, "\t+3", 5),
+            (1, "\t6", 13),
+            (2, "\t99", 5),
+            (3, "final\t5\n", 5),
+            (3, "arc\t0\t0\t0\t0\n", 5),
+            (4, "", 5),
+        ],
+    },
+    Tested {
+        before: "size\t6\t3\t0\n",
+        right: &["arc", "\t1", "\t1", "\t1", "\t1", "", "arc\t1\t0\t0\t0\n", "\n"],
+        faults: &[
+            (0, "", 5),
+            (1, "\tx", 5),
+            (1, "\t6", 13),
+            (2, "\t", 5),
+            (2, "\t3", 13),
+            (3, "\t01", 5),
+            (3, "\t6", 13),
+            (4, "\t1001x", 5),
+            (4, "\t1001", 13),
+            (5, "\t9999", 5),
+            (6, "arc\t5\t2\t0\t0\n", 5),
+            (7, "", 5),
+        ],
+    },
 ];
 
 /// Jobs on W, the paper's example first.

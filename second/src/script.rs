@@ -15,7 +15,8 @@ pub use call::{Call, CameTo};
 pub use lent::{Lent, Slice};
 
 use crate::agree::{
-    checks_agree, filters_agree, first_rosters_agree, mends_agree, patterns_agree, reports_agree,
+    checks_agree, filters_agree, first_rosters_agree, mends_agree, patterns_agree, readings_agree,
+    reports_agree,
 };
 use crate::rules::MOST_VALUES;
 use crate::{mend, report, sheet};
@@ -127,8 +128,8 @@ impl Script {
 }
 
 /// Whether the plain program's several ways agree on a call that they have something to say
-/// about: brute force, tables and pairs on a filter, the reader on what the writer writes, words
-/// matched on the states of a pattern.
+/// about: brute force, tables and pairs on a filter, the reader on what the writer writes, every
+/// fault of a sheet on the reader's first, words matched on the states of a pattern.
 fn ways_agree(lent: &Lent, call: Call) -> bool {
     let case = lent.case();
     match call {
@@ -154,7 +155,8 @@ fn ways_agree(lent: &Lent, call: Call) -> bool {
             let values = lent.rules.values;
             !(1..=MOST_VALUES).contains(&values) || patterns_agree(&lent.input, values)
         }
-        Call::Read | Call::Ask(_) | Call::Job | Call::MendJob | Call::PatternJob => true,
+        Call::Read => readings_agree(&lent.input),
+        Call::Ask(_) | Call::Job | Call::MendJob | Call::PatternJob => true,
     }
 }
 

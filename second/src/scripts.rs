@@ -16,6 +16,7 @@ mod problems;
 mod reports;
 mod sheets;
 mod shuffles;
+pub mod tally;
 mod walks;
 
 use crate::random::Random;
@@ -39,7 +40,9 @@ const FIXED: &[fn(&mut Script)] = &[
     lists::marks,
     sheets::samples,
     sheets::byte_by_byte,
+    sheets::numbers,
     jobs::samples,
+    jobs::wrong_sheets,
     jobs::long,
     shuffles::walk,
     reports::on_w,
@@ -52,6 +55,7 @@ const FIXED: &[fn(&mut Script)] = &[
     mends::sizes,
     mends::limits,
     mendjobs::samples,
+    mendjobs::wrong_sheets,
     mendjobs::long,
     patterns::samples,
     patterns::sizes,

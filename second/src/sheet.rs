@@ -2,6 +2,7 @@
 
 use crate::answer::{require_lengths, Answer};
 use crate::rules::{Rules, MOST_COST, MOST_STATES, MOST_VALUES, NO_ARC, TABLE};
+use std::ops::Range;
 
 /// The numbers an answered reading carries besides its answer.
 #[derive(Clone, Debug, Default, PartialEq, Eq)]
@@ -63,8 +64,61 @@ pub fn number_up_to(field: &[u8], most: u64) -> Option<u64> {
     number(field).filter(|number| *number <= most)
 }
 
-fn index_below(field: &[u8], bound: usize) -> Option<usize> {
-    number_up_to(field, bound as u64 - 1).map(|number| number as usize)
+/// What a line is wrong by: "its form, a range, its order, or a missing line feed".
+#[derive(Clone, Copy, Debug, PartialEq, Eq)]
+pub enum Fault {
+    Form,
+    Range,
+    Order,
+    LineFeed,
+}
+
+/// The first wrong line of a sheet, from 1, and what is wrong there: "the first fault decides".
+#[derive(Clone, Copy, Debug, PartialEq, Eq)]
+pub struct Wrong {
+    pub line: usize,
+    pub fault: Fault,
+}
+
+impl Wrong {
+    /// "Answer 5 stays for form, order and missing line feed; new answer 13 carries the line for a
+    /// number out of range."
+    pub fn answer(self) -> Answer {
+        match self.fault {
+            Fault::Range => Answer::Outside,
+            Fault::Form | Fault::Order | Fault::LineFeed => Answer::Sheet,
+        }
+    }
+}
+
+fn unless(right: bool, fault: Fault) -> Result<(), Fault> {
+    if right {
+        Ok(())
+    } else {
+        Err(fault)
+    }
+}
+
+/// The numbers of a line, each in its range: "Fields are tested from left to right and the first
+/// fault decides". A field that is missing is tested in its place, one too many after the last.
+fn numbers<const COUNT: usize>(
+    fields: &[&[u8]],
+    ranges: [Range<usize>; COUNT],
+) -> Result<[usize; COUNT], Fault> {
+    let mut numbers = [0; COUNT];
+    for (index, range) in ranges.iter().enumerate() {
+        numbers[index] = number_in(fields.get(index), range)?;
+    }
+    unless(fields.len() == COUNT, Fault::Form)?;
+    Ok(numbers)
+}
+
+/// "not a number of our form, or of the form but above its ceiling, whatever its digit count. A
+/// count of 0 states or 0 values in the size line is out of range too."
+fn number_in(field: Option<&&[u8]>, range: &Range<usize>) -> Result<usize, Fault> {
+    let number = field.and_then(|field| number(field)).ok_or(Fault::Form)?;
+    let index = usize::try_from(number).ok().filter(|index| range.contains(index));
+    index.ok_or(Fault::Range)
 }
 
 /// The records read so far.
@@ -78,40 +132,50 @@ struct Reading {
 }
 
 /// "First `size`, Q, V, start."
-fn size_line(text: &[u8]) -> Option<Reading> {
-    let &[b"size", states, values, start] = fields(text).as_slice() else {
-        return None;
-    };
-    let states = index_below(states, MOST_STATES + 1).filter(|states| *states >= 1)?;
-    let values = index_below(values, MOST_VALUES + 1).filter(|values| *values >= 1)?;
-    let start = index_below(start, states)? as u8;
-    Some(Reading { states, values, start, finals: Vec::new(), arcs: Vec::new() })
+fn size_line(line: &Line) -> Result<Reading, Fault> {
+    let all = fields(line.text);
+    let (name, rest) = (all[0], &all[1..]);
+    unless(name == b"size", Fault::Form)?;
+    // Where Q is wrong itself, the start is not looked at.
+    let below = number_in(rest.first(), &(1..MOST_STATES + 1)).unwrap_or(0);
+    let ranges = [1..MOST_STATES + 1, 1..MOST_VALUES + 1, 0..below];
+    let [states, values, start] = numbers(rest, ranges)?;
+    unless(line.ended, Fault::LineFeed)?;
+    Ok(Reading { states, values, start: start as u8, finals: Vec::new(), arcs: Vec::new() })
 }
 
 impl Reading {
-    fn take(&mut self, text: &[u8]) -> Option<()> {
-        match *fields(text).as_slice() {
-            [b"final", state] => self.take_final(state),
-            [b"arc", state, value, target, cost] => self.take_arc(state, value, target, cost),
-            _ => None,
+    /// A line after the first: "The first field is [..] `final` or `arc` [..]; any other is a fault
+    /// of form", and "order comes after all fields, the missing line feed last".
+    fn take(&mut self, line: &Line) -> Result<(), Fault> {
+        let all = fields(line.text);
+        match all[0] {
+            b"final" => self.take_final(&all[1..])?,
+            b"arc" => self.take_arc(&all[1..])?,
+            _ => return Err(Fault::Form),
         }
+        unless(line.ended, Fault::LineFeed)
     }
 
     /// "Then `final` and a state, rising."
-    fn take_final(&mut self, state: &[u8]) -> Option<()> {
-        let state = index_below(state, self.states)?;
+    fn take_final(&mut self, fields: &[&[u8]]) -> Result<(), Fault> {
+        let states = 0..self.states;
+        let [state] = numbers(fields, [states])?;
         let in_order = self.arcs.is_empty() && self.finals.last().is_none_or(|last| *last < state);
-        in_order.then(|| self.finals.push(state))
+        unless(in_order, Fault::Order)?;
+        self.finals.push(state);
+        Ok(())
     }
 
     /// "Then `arc`, state, value, target, cost, rising by state then value; no pair twice."
-    fn take_arc(&mut self, state: &[u8], value: &[u8], target: &[u8], cost: &[u8]) -> Option<()> {
-        let state = index_below(state, self.states)?;
-        let value = index_below(value, self.values)?;
-        let target = index_below(target, self.states)? as u8;
-        let cost = number_up_to(cost, u64::from(MOST_COST))? as u16;
+    fn take_arc(&mut self, fields: &[&[u8]]) -> Result<(), Fault> {
+        let (states, values, costs) = (0..self.states, 0..self.values, 0..MOST_COST as usize + 1);
+        let ranges = [states.clone(), values, states, costs];
+        let [state, value, target, cost] = numbers(fields, ranges)?;
         let in_order = self.arcs.last().is_none_or(|last| (last.0, last.1) < (state, value));
-        in_order.then(|| self.arcs.push((state, value, target, cost)))
+        unless(in_order, Fault::Order)?;
+        self.arcs.push((state, value, target as u8, cost as u16));
+        Ok(())
     }
 
     fn into_rules(self) -> Rules {
@@ -128,15 +192,14 @@ impl Reading {
 }
 
 /// The rule set of a sheet, its tables holding just the first Q × V places; or the first
-/// wrong line, from 1.
-pub fn parse(text: &[u8]) -> Result<Rules, usize> {
+/// wrong line.
+pub fn parse(text: &[u8]) -> Result<Rules, Wrong> {
     let lines = lines(text);
-    // "An empty sheet is wrong at line 1."
-    let first = lines.first().filter(|line| line.ended).ok_or(1_usize)?;
-    let mut reading = size_line(first.text).ok_or(1_usize)?;
+    // "An empty sheet is wrong at line 1": no number is out of range there.
+    let first = lines.first().ok_or(Wrong { line: 1, fault: Fault::Form })?;
+    let mut reading = size_line(first).map_err(|fault| Wrong { line: 1, fault })?;
     for (index, line) in lines.iter().enumerate().skip(1) {
-        let taken = reading.take(line.text);
-        taken.filter(|()| line.ended).ok_or(index + 1)?;
+        reading.take(line).map_err(|fault| Wrong { line: index + 1, fault })?;
     }
     Ok(reading.into_rules())
 }
@@ -147,7 +210,7 @@ pub fn read_sheet(text: &[u8], targets: &mut [u8], costs: &mut [u16]) -> (Answer
         return (answer, Carried::default());
     }
     match parse(text) {
-        Err(line) => (Answer::Sheet, Carried { line, ..Carried::default() }),
+        Err(wrong) => (wrong.answer(), Carried { line: wrong.line, ..Carried::default() }),
         Ok(rules) => {
             targets[..rules.targets.len()].copy_from_slice(&rules.targets);
             costs[..rules.costs.len()].copy_from_slice(&rules.costs);

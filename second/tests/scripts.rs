@@ -87,10 +87,24 @@ fn a_program_that_fails_after_all_lines_is_a_failure() {
     assert_eq!(passed_and_failed(&text).1, 1);
 }
 
+/// The tally is of the readings that are compared.
+#[test]
+fn a_tally_comes_to_the_same_answers_as_a_comparison() {
+    let answers = |arguments: &[&str]| {
+        let text = String::from_utf8(scripts(arguments).stdout).unwrap();
+        let lines = text.lines().filter(|line| line.starts_with("read: answer "));
+        lines.map(str::to_owned).collect::<Vec<_>>()
+    };
+    let counted = answers(&["tally", "5", "600"]);
+    assert_eq!(counted.len(), 4, "{counted:?}");
+    assert_eq!(counted, answers(&["only", "sheets", "5", "600", "true"]));
+}
+
 #[test]
 fn wrong_arguments_are_told() {
     let no_kind = &["only", "none", "1", "1", "cat"];
-    for arguments in [&["write", "1"][..], &["compare", "x", "1", "cat"], no_kind, &[]] {
+    let no_count = &["tally", "1"];
+    for arguments in [&["write", "1"][..], &["compare", "x", "1", "cat"], no_kind, no_count, &[]] {
         assert_eq!(scripts(arguments).status.code(), Some(2), "{arguments:?}");
     }
 }

@@ -1,14 +1,25 @@
--- The kept lines, one after the other. Assumes nothing.
+-- What is printed of a wrong sheet, and the kept lines, one after the other. Assumes nothing.
 use mathlib.Core.Path.{_≡_, ap, sym, _∙_}
 use mathlib.Core.List.{List, [], _∷_, _++_, append-nil, append-assoc}
 use Prim.Native.Nat.{ℕ, suc, _+_, _≤_, _<_}
 use native.Mathlib.Numerals.{add-one}
 use native.Mathlib.Omega.{arith}
+use borrow.Author.Tests.{ne-eqb}
 use lib.ListN.{length, getD, take}
 use lib.Seq.{take-suc, take-length, length-take-le}
 use Rattle.text.specs.Writing.{mostPlace, Wrote}
 use Rattle.text.proofs.Putting.{wrote-append}
-use Rattle.job.specs.Output.{keptLine, keptLines}
+use Rattle.job.specs.Output.{sheetLine, rangeLine, wrongText, keptLine, keptLines}
+
+-- of a wrong sheet, by its answer
+module _ (a n : ℕ) where
+  pub text-range : a ≡ 13 → rangeLine n ≡ wrongText a n
+  unfolding wrongText
+  text-range e = rw e
+
+  pub text-sheet : (a ≡ 13 → ⊥) → sheetLine n ≡ wrongText a n
+  unfolding wrongText
+  text-sheet e = rw (ne-eqb a 13 e)
 
 -- one place more
 kept-snoc : (k : ℕ) (ms : List ℕ) (m : ℕ) → keptLines k (ms ++ m ∷ []) ≡ keptLines k ms ++ keptLine (k + length ms) m

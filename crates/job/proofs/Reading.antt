@@ -1,5 +1,5 @@
 -- What is printed by what the reader says of the sheet. Assumes nothing.
-use mathlib.Core.Path.{_≡_, ap, sym, _∙_, subst}
+use mathlib.Core.Path.{_≡_, refl, ap, sym, _∙_, subst}
 use mathlib.Core.Bool.{true, false}
 use mathlib.Core.List.{List}
 use Prim.Native.Nat.{ℕ, _-_, _<_, _≤_}
@@ -9,18 +9,22 @@ use lib.Seq.{take-all}
 use borrow.Author.Tests.{eq-eqb, ne-eqb, lt-ltb, le-ltb}
 use Rattle.meaning.specs.Meaning.{rulesOf}
 use Rattle.meaning.specs.Bounds.{tableSize}
-use Rattle.rules.specs.Checks.{rulesRight}
+use Rattle.rules.specs.Checks.{tablesLong, rulesRight}
 use Rattle.text.specs.Lines.{lines}
-use Rattle.sheet.specs.Reading.{Outcome, readLeft, readOf}
+use Rattle.text.specs.declared.lines.Fault.{Fault}
+use Rattle.sheet.specs.Faults.{FirstWrong}
+use Rattle.sheet.specs.Reading.{Outcome, readLeft, faultAnswer, readOf}
+use Rattle.sheet.proofs.Answering.{reads-wrong, fault-answers}
+use Rattle.sheet.proofs.FirstWrong.{first-wrong}
 use Rattle.sheet.proofs.OneText.{one-text}
 use Rattle.job.specs.Input.{longestInput, before, parted, after}
-use Rattle.job.specs.Output.{longText, sheetLine, jobLine}
+use Rattle.job.specs.Output.{longText, wrongText, jobLine}
 use Rattle.job.specs.Job.{Program, daysDone, jobDone, sheetDone, programText}
 
 module _ (p : Program) (s : List ℕ) (r : Outcome) (a n q v b m : ℕ) (t c : List ℕ) (e : readLeft a n q v b m t c ≡ r) where
-  pub sheet-wrong : (a ≡ 0 → ⊥) → sheetLine n ≡ sheetDone p s r
+  pub sheet-wrong : (a ≡ 0 → ⊥) → wrongText a n ≡ sheetDone p s r
   unfolding sheetDone
-  sheet-wrong h = subst (λ (o : Outcome). sheetLine n ≡ sheetDone p s o) e (rw (ne-eqb a 0 h))
+  sheet-wrong h = subst (λ (o : Outcome). wrongText a n ≡ sheetDone p s o) e (rw (ne-eqb a 0 h))
 
   pub job-missing : a ≡ 0 → parted true s ≡ false → jobLine 1 ≡ sheetDone p s r
   unfolding sheetDone jobDone
@@ -47,3 +51,16 @@ long-input p s h = rw (lt-ltb longestInput (length s) h)
 pub short-input : (p : Program) (s : List ℕ) → length s ≤ longestInput → sheetDone p s (readOf (before true s) (replicate tableSize 0) (replicate tableSize 0)) ≡ programText p s
 unfolding programText
 short-input p s h = rw (le-ltb longestInput (length s) h)
+
+-- OF A WRONG SHEET its first wrong line is printed: behind `range` where its first fault is a number out of range, behind `sheet` otherwise
+pub prints-wrong : (p : Program) (s : List ℕ) (n : ℕ) (f : Fault) → length s ≤ longestInput → FirstWrong (before true s) n f → wrongText (faultAnswer f) n ≡ programText p s
+unfolding tablesLong
+prints-wrong p s n f h w =
+    sheet-wrong p s (readOf (before true s) none none) (faultAnswer f) n 0 0 0 0 none none (sym (reads-wrong (before true s) none none n f full (first-wrong (before true s) n f .1 w))) (fault-answers f)
+    ∙ short-input p s h
+  where
+    none : List ℕ
+    none = replicate tableSize 0
+
+    full : tablesLong none none ≡ true
+    full = refl

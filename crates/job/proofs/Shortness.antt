@@ -23,7 +23,7 @@ use Rattle.text.proofs.Decimals.{decimal-length, field-length}
 use Rattle.sheet.specs.Reading.{Outcome, readOf}
 use Rattle.sheet.proofs.WrongLine.{read-line}
 use Rattle.job.specs.Input.{longestInput, longestOutput, mostDays, mostLines, before, parted, after, readDays, readDecision, Job, days, wrongLine, withDecision, readDecisions}
-use Rattle.job.specs.Output.{longText, noneText, sheetLine, jobLine, keptLine, leastLine, keptLines, verdictText}
+use Rattle.job.specs.Output.{longText, noneText, sheetLine, rangeLine, wrongText, jobLine, keptLine, leastLine, keptLines, verdictText}
 use Rattle.job.specs.Job.{Program, asked, daysDone, doneText, rota, jobDone, sheetDone, programText, jobText}
 use Rattle.job.specs.declared.asks.Count.the-variants as the-count
 use Rattle.job.proofs.Planning.{right-size, days-range}
@@ -34,9 +34,13 @@ abbrev pub mostPrinted : ℕ
 mostPrinted = 1823
 
 -- the lines
-sheet-line : (n : ℕ) → n < 100000 → length (sheetLine n) ≤ mostPrinted
-unfolding sheetLine
-sheet-line n h = simp (field-length) (omega (arith, decimal-length 4 n h))
+wrong-text : (a n : ℕ) → n < 100000 → length (wrongText a n) ≤ mostPrinted
+unfolding wrongText rangeLine sheetLine
+wrong-text a n h = go (eqb a 13)
+  where
+    go : (k : Bool) → length (cond k (rangeLine n) (sheetLine n)) ≤ mostPrinted
+    go true = simp (field-length) (omega (arith, decimal-length 4 n h))
+    go false = simp (field-length) (omega (arith, decimal-length 4 n h))
 
 pub job-line : (n : ℕ) → n < 1000 → length (jobLine n) ≤ mostPrinted
 unfolding jobLine
@@ -173,9 +177,9 @@ module _ (p : Program) (short : Short p) where
   unfolding sheetDone
   sheet-done s x t c h = go (eqb (readOf x t c .answer) 0) refl
     where
-      go : (k : Bool) → eqb (readOf x t c .answer) 0 ≡ k → length (cond k (jobDone p s (readOf x t c)) (sheetLine (readOf x t c .line))) ≤ mostPrinted
+      go : (k : Bool) → eqb (readOf x t c .answer) 0 ≡ k → length (cond k (jobDone p s (readOf x t c)) (wrongText (readOf x t c .answer) (readOf x t c .line))) ≤ mostPrinted
       go true e = job-done s x t c (eqb-true _ _ e)
-      go false e = sheet-line (readOf x t c .line) (omega (arith, read-line x t c))
+      go false e = wrong-text (readOf x t c .answer) (readOf x t c .line) (omega (arith, read-line x t c))
 
   pub program-most : (s : List ℕ) → length (programText p s) ≤ mostPrinted
   unfolding programText

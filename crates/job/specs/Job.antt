@@ -9,7 +9,7 @@ use Rattle.meaning.specs.Bounds.{tableSize, top}
 use Rattle.text.specs.Lines.{lines, onJudged}
 use Rattle.sheet.specs.Reading.{Outcome, readOf}
 use Rattle.job.specs.Input.{longestInput, mostLines, before, parted, after, readDays, Job, days, wrongLine, readDecisions}
-use Rattle.job.specs.Output.{longText, sheetLine, jobLine, verdictText}
+use Rattle.job.specs.Output.{longText, wrongText, jobLine, verdictText}
 
 -- what a program prints once the sheet and the days line are right: by the rule set, its start, n and the lines behind the days line
 abbrev pub Program : Type 0
@@ -27,9 +27,9 @@ jobDone p s r =
     (daysDone (p (rulesOf (r .states) (r .values) (r .targets) (r .costs) (r .accepting)) (r .start)) (lines (after true s)))
     (jobLine 1)
 
--- of a wrong sheet, its first wrong line is printed
+-- of a wrong sheet, its first wrong line is printed, and whether a number is out of range
 unfoldable pub sheetDone : Program → List ℕ → Outcome → List ℕ
-sheetDone p s r = cond (eqb (r .answer) 0) (jobDone p s r) (sheetLine (r .line))
+sheetDone p s r = cond (eqb (r .answer) 0) (jobDone p s r) (wrongText (r .answer) (r .line))
 
 -- THE PROMISE: the sheet is what stands before the first empty line, read into tables that the program has itself
 unfoldable pub programText : Program → List ℕ → List ℕ

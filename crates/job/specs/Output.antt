@@ -17,6 +17,14 @@ noneText = 110 ∷ 111 ∷ 110 ∷ 101 ∷ feed ∷ []
 unfoldable pub sheetLine : ℕ → List ℕ
 sheetLine n = 115 ∷ 104 ∷ 101 ∷ 101 ∷ 116 ∷ tab ∷ (decimal n ++ feed ∷ [])
 
+unfoldable pub rangeLine : ℕ → List ℕ
+rangeLine n = 114 ∷ 97 ∷ 110 ∷ 103 ∷ 101 ∷ tab ∷ (decimal n ++ feed ∷ [])
+
+-- of a wrong sheet: its first wrong line, behind `range` under answer 13 and behind `sheet` otherwise
+unfoldable pub wrongText : ℕ → ℕ → List ℕ
+unfolding sheetLine rangeLine
+wrongText a n = cond (eqb a 13) (rangeLine n) (sheetLine n)
+
 unfoldable pub jobLine : ℕ → List ℕ
 jobLine n = 106 ∷ 111 ∷ 98 ∷ tab ∷ (decimal n ++ feed ∷ [])
 

@@ -21,6 +21,7 @@ use crate::cut::cut_at;
 use crate::plan::Task;
 use crate::plan::plan;
 use crate::print::put_line;
+use crate::print::put_wrong;
 use rules::bounds;
 use sheet::read_sheet;
 use text::puts::put_word;
@@ -47,7 +48,7 @@ fn job_in(
     let read = read_sheet(&input[..sheet_end], targets, costs);
     let answer = read.answer;
     if answer.number() != 0 {
-        return put_line(output, 0, b"sheet\t", read.line);
+        return put_wrong(output, answer, read.line);
     }
     if !cut.found {
         return put_line(output, 0, b"job\t", 1);

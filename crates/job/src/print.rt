@@ -3,7 +3,9 @@ ghost use mathlib.Core.List.{[], _∷_, _++_};
 ghost use Rattle.text.specs.Bytes.{feed};
 ghost use Rattle.text.specs.Numbers.{decimal};
 ghost use Rattle.text.specs.Writing.{Wrote};
-ghost use Rattle.job.specs.Output.{keptLine, keptLines};
+ghost use Rattle.rules.specs.Answers.{numberOf};
+ghost use Rattle.job.specs.Output.{wrongText, keptLine, keptLines};
+use rules::Answer;
 use text::puts::put_byte;
 use text::puts::put_number;
 use text::puts::put_word;
@@ -15,6 +17,17 @@ pub(crate) fn put_line(output: &mut [u8], at: usize, word: &[u8], number: usize)
     let past_word = put_word(output, at, word);
     let past_number = put_number(output, past_word, number);
     put_byte(output, past_number, b'\n')
+}
+
+// What a wrong sheet is answered with, and its first wrong line.
+pub(crate) fn put_wrong(output: &mut [u8], answer: Answer, line: usize) -> usize
+    ensures { λ r. ⌜ Wrote (now (output .entry)) 0 (wrongText (numberOf answer) line) (now (output .exit)) r ⌝ }
+{
+    let outside = Answer::NumberOutside;
+    if answer.number() == outside.number() {
+        return put_line(output, 0, b"range\t", line);
+    }
+    put_line(output, 0, b"sheet\t", line)
 }
 
 // The kept line of one place.

@@ -14,7 +14,7 @@ use Rattle.rules.specs.declared.Answer.{Answer}
 use Rattle.rules.specs.declared.Answer.the-variants as the
 use Rattle.rules.specs.declared.Reported.{Reported}
 
--- an answer is told by its number; 13 is none yet
+-- an answer is told by its number
 abbrev answers : List Answer
 answers =
     the.Done
@@ -30,7 +30,7 @@ answers =
     ∷ the.NoMark
     ∷ the.NoRoster
     ∷ the.WrongMemory
-    ∷ the.Done
+    ∷ the.NumberOutside
     ∷ the.ManyStates
     ∷ the.WrongPattern
     ∷ []
@@ -49,6 +49,7 @@ at-number the.MarksFull = refl
 at-number the.NoMark = refl
 at-number the.NoRoster = refl
 at-number the.WrongMemory = refl
+at-number the.NumberOutside = refl
 at-number the.ManyStates = refl
 at-number the.WrongPattern = refl
 

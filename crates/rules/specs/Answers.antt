@@ -22,12 +22,13 @@ numberOf the.MarksFull = 9
 numberOf the.NoMark = 10
 numberOf the.NoRoster = 11
 numberOf the.WrongMemory = 12
+numberOf the.NumberOutside = 13
 numberOf the.ManyStates = 14
 numberOf the.WrongPattern = 15
 
 -- the order in which checks run
 unfoldable pub order : List ℕ
-order = 1 ∷ 2 ∷ 3 ∷ 4 ∷ 5 ∷ 15 ∷ 14 ∷ 12 ∷ 7 ∷ 8 ∷ 9 ∷ 10 ∷ 6 ∷ 11 ∷ []
+order = 1 ∷ 2 ∷ 3 ∷ 4 ∷ 5 ∷ 13 ∷ 15 ∷ 14 ∷ 12 ∷ 7 ∷ 8 ∷ 9 ∷ 10 ∷ 6 ∷ 11 ∷ []
 
 -- a check: its answer number, and whether it is passed
 pub data Check : Type 0 where

@@ -36,6 +36,7 @@ pub enum Answer {
     NoMark,
     NoRoster,
     WrongMemory,
+    NumberOutside,
     ManyStates,
     WrongPattern,
 }
@@ -58,6 +59,7 @@ impl Answer {
             Answer::NoMark => 10,
             Answer::NoRoster => 11,
             Answer::WrongMemory => 12,
+            Answer::NumberOutside => 13,
             Answer::ManyStates => 14,
             Answer::WrongPattern => 15,
         }

@@ -1,6 +1,9 @@
 pub mod Texts
+pub mod Faults
 pub mod Tables
 pub mod Filled
+pub mod Answering
+pub mod FirstWrong
 pub mod OneText
 pub mod Judging
 pub mod Taking

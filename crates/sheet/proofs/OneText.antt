@@ -11,7 +11,6 @@ use Rattle.meaning.specs.Meaning.{Rules, rulesOf}
 use Rattle.meaning.specs.Lists.{from, each}
 use Rattle.meaning.specs.Bounds.{tableSize}
 use Rattle.rules.specs.Checks.{handed, RulesAlike, OneRuleSet, sizeRight, tablesLong, rulesRight}
-use Rattle.rules.specs.Answers.{check, decided}
 use Rattle.rules.proofs.Checks.{both, size-of, size-last, long-tables, arcs-few}
 use Rattle.rules.specs.declared.Size.{Size}
 use Rattle.rules.proofs.Lawful.{Lawful, lawful}
@@ -20,10 +19,11 @@ use Rattle.meaning.proofs.Lists.{each-same}
 use Rattle.sheet.specs.Lines.{sizeOf, Line, sizeText, lineText, place}
 use Rattle.text.specs.Lines.{lines}
 use Rattle.sheet.specs.Sheets.{finalLine, arcLine, linesOf, textOf, sheetText, Sheet, sheet, wrongAt, readSheet, acceptingOf, targetsOf, costsOf}
-use Rattle.sheet.specs.Reading.{readLeft, readOf, isRight, readRefused, readDone}
+use Rattle.sheet.specs.Reading.{readLeft, readOf}
 use Rattle.sheet.specs.Inner.{Sized}
 use Rattle.text.proofs.Cutting.{lines-one}
 use Rattle.sheet.proofs.Texts.{Rising, joined, one-size, one-line, sheet-text, Sheeted, sheet-read}
+use Rattle.sheet.proofs.Answering.{reads-short, reads-wrong, reads-right, fault-answers}
 use Rattle.sheet.proofs.Tables.{lines-rising, lines-accepting, lines-targets, lines-costs}
 use Rattle.sheet.proofs.Filled.{targets-length, costs-length, lines-back, rules-back}
 
@@ -39,7 +39,7 @@ in-size z g =
 -- A RULE SET THAT IS WRITTEN READS AS ITSELF, into any full tables
 pub reads-back : (q v s : ℕ) (t c : List ℕ) (a : ℕ) (xs ys : List ℕ) → rulesRight q v s t c a ≡ true → tablesLong xs ys ≡ true
     → readOf (sheetText (rulesOf q v t c a) s) xs ys ≡ readLeft 0 0 q v s a (take (q * v) t ++ drop (q * v) xs) (take (q * v) c ++ drop (q * v) ys)
-unfolding rulesRight readOf decided sheetText
+unfolding rulesRight sheetText
 reads-back q v s t c a xs ys h k =
     let p = both (sizeRight q v s) _ h in
     let p2 = both (tablesLong t c) _ (p .1) in
@@ -47,9 +47,8 @@ reads-back q v s t c a xs ys h k =
     let w : Lawful (rulesOf q v t c a) = lawful q v t c a (p2 .1) in
     let l = long-tables t c (p2 .0) in
     let n : q * v ≤ tableSize = arcs-few (g .few-states) (g .few-values) in
-    rw (
-      k,
-      sheet-text (sizeOf q v s) (linesOf (rulesOf q v t c a)) g (lines-rising (rulesOf q v t c a) s g w),
+    reads-right (sheetText (rulesOf q v t c a) s) xs ys (sizeOf q v s) (linesOf (rulesOf q v t c a)) k (sheet-text (sizeOf q v s) (linesOf (rulesOf q v t c a)) g (lines-rising (rulesOf q v t c a) s g w))
+    ∙ rw (
       lines-accepting (rulesOf q v t c a) (g .few-states) w,
       lines-targets (rulesOf q v t c a) s (g .few-states) w (omega (arith, l .0)) xs,
       lines-costs (rulesOf q v t c a) s (g .few-states) w (omega (arith, l .1)) ys,
@@ -79,22 +78,21 @@ whole text z ls xs ys e h =
 
 -- A TEXT THAT READS AS A RULE SET IS THAT RULE SET'S TEXT, and the rule set is right
 pub one-text : (text xs ys : List ℕ) (n q v s a : ℕ) (t c : List ℕ) → readOf text xs ys ≡ readLeft 0 n q v s a t c → Whole text q v s t c a
-unfolding readOf decided
-one-text text xs ys n q v s a t c e = go (tablesLong xs ys) refl (readSheet text) refl e
+one-text text xs ys n q v s a t c e = go (tablesLong xs ys) refl (readSheet text) refl
   where
-    go : (b : Bool) → tablesLong xs ys ≡ b → (x : Sheet) → readSheet text ≡ x
-        → decided (check 2 b ∷ check 5 (isRight x) ∷ []) (readRefused x xs ys) (readDone x xs ys) ≡ readLeft 0 n q v s a t c → Whole text q v s t c a
-    go true h (sheet z ls) k e =
+    go : (b : Bool) → tablesLong xs ys ≡ b → (x : Sheet) → readSheet text ≡ x → Whole text q v s t c a
+    go true h (sheet z ls) k =
         let w : Whole text (z .states) (z .values) (z .start .0) (targetsOf z ls xs) (costsOf z ls ys) (acceptingOf ls) = whole text z ls xs ys k h in
-        let e1 : z .states ≡ q = ap (λ o. o .states) e in
-        let e2 : z .values ≡ v = ap (λ o. o .values) e in
-        let e3 : z .start .0 ≡ s = ap (λ o. o .start) e in
-        let e4 : acceptingOf ls ≡ a = ap (λ o. o .accepting) e in
-        let e5 : targetsOf z ls xs ≡ t = ap (λ o. o .targets) e in
-        let e6 : costsOf z ls ys ≡ c = ap (λ o. o .costs) e in
+        let f = sym (reads-right text xs ys z ls h k) ∙ e in
+        let e1 : z .states ≡ q = ap (λ o. o .states) f in
+        let e2 : z .values ≡ v = ap (λ o. o .values) f in
+        let e3 : z .start .0 ≡ s = ap (λ o. o .start) f in
+        let e4 : acceptingOf ls ≡ a = ap (λ o. o .accepting) f in
+        let e5 : targetsOf z ls xs ≡ t = ap (λ o. o .targets) f in
+        let e6 : costsOf z ls ys ≡ c = ap (λ o. o .costs) f in
         rw (← e1, ← e2, ← e3, ← e4, ← e5, ← e6) w
-    go true h (wrongAt m f) k e = let u : _≡_ {A = ℕ} 5 0 = ap (λ o. o .answer) e in absurd (omega arith)
-    go false h x k e = let u : _≡_ {A = ℕ} 2 0 = ap (λ o. o .answer) e in absurd (omega arith)
+    go true h (wrongAt m f) k = absurd (fault-answers f (ap (λ o. o .answer) (sym (reads-wrong text xs ys m f h k) ∙ e)))
+    go false h x k = let u : _≡_ {A = ℕ} 2 0 = ap (λ o. o .answer) (sym (reads-short text xs ys h) ∙ e) in absurd (omega arith)
 
 -- so each rule set has one text
 pub texts-same : (text other xs ys : List ℕ) (n q v s a : ℕ) (t c : List ℕ) → readOf text xs ys ≡ readLeft 0 n q v s a t c → readOf other xs ys ≡ readLeft 0 n q v s a t c → text ≡ other

@@ -7,19 +7,21 @@ use native.Mathlib.Omega.{arith}
 use lib.ListN.{length}
 use Rattle.meaning.specs.Bounds.{tableSize, noTarget}
 use Rattle.rules.specs.Checks.{tablesLong}
-use Rattle.rules.specs.Answers.{numberOf, decided}
-use Rattle.rules.proofs.Checks.{refuses, arcs-few, never}
+use Rattle.rules.specs.Answers.{numberOf}
+use Rattle.rules.proofs.Checks.{arcs-few, never}
 use Rattle.rules.specs.declared.Size.{Size}
 use Rattle.sheet.specs.Lines.{Line}
 use Rattle.sheet.specs.Sheets.{Sheet, sheet, wrongAt, readSheet, acceptingOf, puts, theTarget, theCost, blank, targetsOf, costsOf}
-use Rattle.sheet.specs.Reading.{Outcome, readLeft, readRefused, readDone, readOf}
+use Rattle.sheet.specs.Reading.{Outcome, readLeft, faultAnswer, readOf}
 use Rattle.sheet.specs.Inner.{Sized, found, bad, sheetFound, takenFound, Took, refusal}
-use Rattle.rules.specs.declared.Answer.the-variants.{WrongLength, WrongSheet}
+use Rattle.rules.specs.declared.Answer.{Answer}
+use Rattle.rules.specs.declared.Answer.the-variants.{WrongLength}
 use Rattle.sheet.specs.declared.Read.{Read}
 use Rattle.text.specs.declared.lines.Fault.{Fault}
 use Rattle.sheet.specs.declared.take.Taken.{Taken}
 use Rattle.sheet.specs.declared.take.Taken.the-variants as taken
 use Rattle.sheet.proofs.Texts.{sheet-read}
+use Rattle.sheet.proofs.Answering.{reads-short, reads-wrong, reads-right}
 
 -- what a call leaves
 abbrev pub leftOf : Read → List ℕ → List ℕ → Outcome
@@ -32,18 +34,15 @@ no-room (y ∷ ys) xs h = absurd (omega arith)
 
 module _ (s t c : List ℕ) where
   pub left-short : (r : Read) → r ≡ refusal WrongLength 0 → tablesLong t c ≡ false → leftOf r t c ≡ readOf s t c
-  unfolding readOf
-  left-short r e h = ap (λ (x : Read). leftOf x t c) e ∙ refuses (readRefused (readSheet s) t c) (readDone (readSheet s) t c) 2 (tablesLong t c) _ h
+  left-short r e h = ap (λ (x : Read). leftOf x t c) e ∙ sym (reads-short s t c h)
 
-  pub left-wrong : (r : Read) (n : ℕ) (f : Fault) (t2 c2 : List ℕ) → r ≡ refusal WrongSheet n → tablesLong t c ≡ true → readSheet s ≡ wrongAt n f → t2 ≡ t → c2 ≡ c
+  pub left-wrong : (r : Read) (a : Answer) (n : ℕ) (f : Fault) (t2 c2 : List ℕ) → numberOf a ≡ faultAnswer f → r ≡ refusal a n → tablesLong t c ≡ true → readSheet s ≡ wrongAt n f → t2 ≡ t → c2 ≡ c
       → leftOf r t2 c2 ≡ readOf s t c
-  unfolding readOf decided
-  left-wrong r n f t2 c2 k h e a b = rw (k, h, e, a, b)
+  left-wrong r a n f t2 c2 m k h e x y = rw (k, m, x, y, reads-wrong s t c n f h e)
 
   left-done : (z : Size) (ls : List Line) (m : ℕ) (t2 c2 : List ℕ) → tablesLong t c ≡ true → readSheet s ≡ sheet z ls → m ≡ acceptingOf ls
       → t2 ≡ targetsOf z ls t → c2 ≡ costsOf z ls c → readLeft 0 0 (z .states) (z .values) (z .start .0) m t2 c2 ≡ readOf s t c
-  unfolding readOf decided
-  left-done z ls m t2 c2 h e k a b = rw (h, e, k, a, b)
+  left-done z ls m t2 c2 h e k a b = rw (k, a, b, reads-right s t c z ls h e)
 
 -- what a sheet that was taken tells
 pub took-is-wrong : (x : Sheet) (t c : List ℕ) (r : Taken) (t2 c2 : List ℕ) (n : ℕ) (f : Fault) → Took x t c r t2 c2 → r ≡ taken.Wrong n f → x ≡ wrongAt n f

@@ -1,17 +1,18 @@
 -- The number of a wrong line: at most one past the lines of the sheet, which are at most its bytes. Assumes nothing.
-use mathlib.Core.Bool.{Bool, true, false, cond}
+use mathlib.Core.Path.{_≡_, refl}
+use mathlib.Core.Bool.{Bool, true, false}
 use mathlib.Core.List.{List, [], _∷_}
 use Prim.Native.Nat.{ℕ, suc, _+_, _≤_, _<_}
 use native.Mathlib.Omega.{arith}
 use lib.ListN.{length}
 use Rattle.rules.specs.Checks.{tablesLong}
-use Rattle.rules.specs.Answers.{decided}
 use Rattle.rules.specs.declared.Size.{Size}
 use Rattle.text.specs.Lines.{Judged, right, wrong, lines, onJudged}
 use Rattle.text.proofs.Cutting.{lines-length}
 use Rattle.sheet.specs.Lines.{Line, place, readSize, readLine}
 use Rattle.sheet.specs.Sheets.{Sheet, sheet, wrongAt, withLine, readRest, readLines, readSheet}
-use Rattle.sheet.specs.Reading.{readChecks, readRefused, readDone, readOf}
+use Rattle.sheet.specs.Reading.{readOf}
+use Rattle.sheet.proofs.Answering.{reads-short, reads-wrong, reads-right}
 
 abbrev SheetIn : ℕ → Sheet → Type 0
 SheetIn b (sheet z ls) = Unit
@@ -39,19 +40,11 @@ read-in b (l ∷ ls) h = go (readSize l)
     go (right z) = rest-in b z 0 2 ls (omega arith)
     go (wrong f) = omega arith
 
-outcome-line : (b : ℕ) (x : Sheet) (t c : List ℕ) → SheetIn b x → decided (readChecks x t c) (readRefused x t c) (readDone x t c) .line ≤ b
-unfolding decided
-outcome-line b (sheet z ls) t c h = go (tablesLong t c)
-  where
-    go : (k : Bool) → cond k (readDone (sheet z ls) t c) (readRefused (sheet z ls) t c 2) .line ≤ b
-    go true = omega arith
-    go false = omega arith
-outcome-line b (wrongAt n f) t c h = go (tablesLong t c)
-  where
-    go : (k : Bool) → cond k (readRefused (wrongAt n f) t c 5) (readRefused (wrongAt n f) t c 2) .line ≤ b
-    go true = h
-    go false = omega arith
-
 pub read-line : (s t c : List ℕ) → readOf s t c .line ≤ suc (length s)
-unfolding readOf readSheet
-read-line s t c = outcome-line (suc (length s)) (readLines (lines s)) t c (read-in (suc (length s)) (lines s) (omega (arith, lines-length s)))
+unfolding readSheet
+read-line s t c = go (tablesLong t c) refl (readSheet s) refl (read-in (suc (length s)) (lines s) (omega (arith, lines-length s)))
+  where
+    go : (k : Bool) → tablesLong t c ≡ k → (x : Sheet) → readSheet s ≡ x → SheetIn (suc (length s)) (readLines (lines s)) → readOf s t c .line ≤ suc (length s)
+    go true h (sheet z ls) e i = rw (reads-right s t c z ls h e) (omega arith)
+    go true h (wrongAt n f) e i = rw (reads-wrong s t c n f h e) (rw e at i)
+    go false h x e i = rw (reads-short s t c h) (omega arith)

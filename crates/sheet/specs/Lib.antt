@@ -1,4 +1,5 @@
 pub mod Lines
 pub mod Sheets
+pub mod Faults
 pub mod Reading
 pub mod Inner

@@ -19,15 +19,24 @@ pub data Line : Type 0 where
   final : ℕ → Line
   arc : ℕ → ℕ → ℕ → ℕ → Line
 
--- `size`, `final` and `arc`, each with its tab
+-- `size`, `final` and `arc`; and each with its tab
+abbrev pub sizeName : List ℕ
+sizeName = 115 ∷ 105 ∷ 122 ∷ 101 ∷ []
+
+abbrev pub finalName : List ℕ
+finalName = 102 ∷ 105 ∷ 110 ∷ 97 ∷ 108 ∷ []
+
+abbrev pub arcName : List ℕ
+arcName = 97 ∷ 114 ∷ 99 ∷ []
+
 abbrev pub sizeWord : List ℕ
-sizeWord = 115 ∷ 105 ∷ 122 ∷ 101 ∷ tab ∷ []
+sizeWord = sizeName ++ tab ∷ []
 
 abbrev pub finalWord : List ℕ
-finalWord = 102 ∷ 105 ∷ 110 ∷ 97 ∷ 108 ∷ tab ∷ []
+finalWord = finalName ++ tab ∷ []
 
 abbrev pub arcWord : List ℕ
-arcWord = 97 ∷ 114 ∷ 99 ∷ tab ∷ []
+arcWord = arcName ++ tab ∷ []
 
 -- the text of a line, with its line feed
 unfoldable pub sizeText : Size → List ℕ

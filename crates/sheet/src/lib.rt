@@ -1,7 +1,7 @@
 // The reader of sheets.
 ghost use mathlib.Core.Path.{_≡_};
 ghost use Rattle.rules.specs.Answers.{numberOf};
-ghost use Rattle.sheet.specs.Reading.{readLeft, readOf};
+ghost use Rattle.sheet.specs.Reading.{faultAnswer, readLeft, readOf};
 ghost use Rattle.sheet.specs.Inner.{refusal};
 
 mod lines;
@@ -13,13 +13,26 @@ use crate::take::take_sheet;
 use kinds::State;
 use rules::Answer;
 use rules::Size;
+use text::lines::Fault;
 
-// What reading answers: under 0 the size and the accepting mask, under 5 the first wrong line.
+// What reading answers: under 0 the size and the accepting mask, under 5 and 13 the first wrong line.
 pub struct Read {
     pub answer: Answer,
     pub line: usize,
     pub size: Size,
     pub accepting: u64,
+}
+
+// The answer for a wrong line, by its fault.
+fn answer_for(fault: Fault) -> Answer
+    ensures { λ r. ⌜ numberOf r ≡ faultAnswer fault ⌝ }
+{
+    match fault {
+        Fault::Form => Answer::WrongSheet,
+        Fault::Range => Answer::NumberOutside,
+        Fault::Order => Answer::WrongSheet,
+        Fault::Cut => Answer::WrongSheet,
+    }
 }
 
 // A refusal.
@@ -47,7 +60,7 @@ pub fn read_sheet(text: &[u8], targets: &mut [u8], costs: &mut [u16]) -> Read
     }
     let judged = take_sheet(text, &mut targets[..0], &mut costs[..0]);
     match judged {
-        Taken::Wrong(line, _) => refused(Answer::WrongSheet, line),
+        Taken::Wrong(line, fault) => refused(answer_for(fault), line),
         Taken::Right(size, accepting) => {
             clear(targets, costs, size.states * size.values);
             take_sheet(text, targets, costs);

@@ -7,9 +7,10 @@ use native.Mathlib.Omega.{arith}
 use lib.ListN.{length, getD, take, drop, length-drop, take-append-drop}
 use lib.Dec.{eqb}
 use lib.Seq.{drop-cons, getD-drop, drop-length, drop-drop, take-all}
-use borrow.Author.Tests.{ne-eqb}
+use borrow.Author.Tests.{ne-eqb, eqb-false}
 use Rattle.text.specs.Bytes.{feed}
 use Rattle.text.specs.Lines.{onto, lines, LineAt}
+use Rattle.text.specs.Fields.{IsLine}
 
 -- a text with one line feed, at its end
 pub data OneLine : List ℕ → Type 0 where
@@ -71,3 +72,25 @@ pub lines-length : (s : List ℕ) → length (lines s) ≤ length s
 unfolding lines
 lines-length [] = omega arith
 lines-length (b ∷ s) = omega (arith, onto-length b (eqb b feed) (lines s), lines-length s)
+
+-- every line of a text is a line
+abbrev AllLines : List (List ℕ) → Type 0
+AllLines [] = Unit
+AllLines (l ∷ ls) = IsLine l × AllLines ls
+
+onto-are : (b : ℕ) (t : Bool) (ls : List (List ℕ)) → eqb b feed ≡ t → AllLines ls → AllLines (onto b t ls)
+onto-are b true ls e h = ((λ x. refl, tt), h)
+onto-are b false [] e h = ((λ x. refl, tt), tt)
+onto-are b false (l ∷ ls) e h = ((λ x. absurd (eqb-false b feed e x), h .0), h .1)
+
+lines-are : (s : List ℕ) → AllLines (lines s)
+unfolding lines
+lines-are [] = tt
+lines-are (b ∷ s) = onto-are b (eqb b feed) (lines s) refl (lines-are s)
+
+one-of : (before : List (List ℕ)) (l : List ℕ) (after : List (List ℕ)) → AllLines (before ++ l ∷ after) → IsLine l
+one-of [] l after h = h .0
+one-of (b ∷ before) l after h = one-of before l after (h .1)
+
+pub line-is : (s : List ℕ) (before : List (List ℕ)) (l : List ℕ) (after : List (List ℕ)) → lines s ≡ before ++ l ∷ after → IsLine l
+line-is s before l after e = one-of before l after (rw e at (lines-are s))

@@ -1,6 +1,7 @@
--- Laws of decimal numbers: a number's digits read back as the number, and what reads as a number is its digits. Assumes nothing.
+-- Laws of decimal numbers: a number's digits read back as the number, and what a text reads as tells what it is. Assumes nothing.
 use mathlib.Core.Path.{_≡_, refl, ap, sym, _∙_}
-use mathlib.Core.Bool.{Bool, true, false, cond, _&&_, false≢true}
+use mathlib.Core.Logic.{_⊎_, inl, inr, ⊎-elim, _↔_}
+use mathlib.Core.Bool.{Bool, true, false, cond, _&&_, and-false, false≢true}
 use mathlib.Core.List.{List, [], _∷_, _++_, append-assoc, append-nil}
 use Prim.Native.Nat.{ℕ, zero, suc, _+_, _-_, _*_, _/_, _%_, _^_, _≤_, _<_}
 use native.Mathlib.Omega.{arith}
@@ -9,6 +10,7 @@ use native.Mathlib.Nat.{pow-suc}
 use lib.Dec.{leb, eqb}
 use lib.ListN.{length, length-append}
 use borrow.Author.Tests.{lt-ltb, le-ltb, le-leb, lt-leb, eq-eqb, ne-eqb, leb-true, eqb-true}
+use Rattle.meaning.specs.Lists.{all}
 use Rattle.rules.proofs.Checks.{both, or-cases, never}
 use Rattle.text.specs.Bytes.{tab, nought, isDigit}
 use Rattle.text.specs.Numbers.{decimalIn, decimal, digits, past, value, plain, fieldEnd, Field, number, malformed, outside, readNumber, tabbed, readField}
@@ -110,6 +112,16 @@ NoDigit (b ∷ s) = isDigit b ≡ false
 digit-is : (d : ℕ) → nought ≤ d → d ≤ 57 → isDigit d ≡ true
 digit-is d a b = rw (le-leb nought d a, le-leb d 57 b)
 
+is-digit : (d : ℕ) → isDigit d ≡ true → (nought ≤ d) × (d ≤ 57)
+is-digit d e = let w = both (leb nought d) (leb d 57) e in (leb-true nought d (w .0), leb-true d 57 (w .1))
+
+pub digits-only : (ds : List ℕ) → all isDigit ds ≡ true → AllDigits ds
+digits-only [] h = tt
+digits-only (d ∷ ds) h =
+    let w : (isDigit d ≡ true) × (all isDigit ds ≡ true) = both (isDigit d) (all isDigit ds) h in
+    let x = is-digit d (w .0) in
+    (x .0, x .1, digits-only ds (w .1))
+
 pub digits-of : (ds r : List ℕ) → AllDigits ds → NoDigit r → digits (ds ++ r) ≡ ds
 unfolding digits
 digits-of [] [] h n = refl
@@ -138,9 +150,7 @@ digits-all [] = tt
 digits-all (b ∷ s) = go (isDigit b) refl (digits-all s)
   where
     go : (t : Bool) → isDigit b ≡ t → AllDigits (digits s) → AllDigits (cond (isDigit b) (b ∷ digits s) [])
-    go true e h =
-        let w : (leb nought b ≡ true) × (leb b 57 ≡ true) = both (leb nought b) (leb b 57) e in
-        rw e (leb-true nought b (w .0), leb-true b 57 (w .1), h)
+    go true e h = let w = is-digit b e in rw e (w .0, w .1, h)
     go false e h = rw e tt
 
 -- a first digit that is not zero
@@ -203,7 +213,7 @@ decimal-plain (d ∷ e ∷ ds) p a =
     decimal-value (0 * 10 + (d - nought)) (e ∷ ds) (omega arith) (a .2)
     ∙ rw (decimal-small (0 * 10 + (d - nought)) (omega arith), x)
 
-end-no-digit : (r : List ℕ) → fieldEnd r ≡ true → NoDigit r
+pub end-no-digit : (r : List ℕ) → fieldEnd r ≡ true → NoDigit r
 unfolding fieldEnd
 end-no-digit [] e = tt
 end-no-digit (b ∷ r) e =
@@ -211,34 +221,75 @@ end-no-digit (b ∷ r) e =
     (λ q. let h : b ≡ 9 = eqb-true b 9 q in rw (lt-leb nought b (omega arith)))
     (λ q. let h : b ≡ 10 = eqb-true b 10 q in rw (lt-leb nought b (omega arith)))
 
--- a number of the Range, written, reads as itself
-pub read-decimal : (lo hi n : ℕ) (r : List ℕ) → lo ≤ n → n ≤ hi → fieldEnd r ≡ true → readNumber lo hi (decimal n ++ r) ≡ number n r
+-- a number, written, reads as itself if it is in range
+read-written : (lo hi n : ℕ) (r : List ℕ) → fieldEnd r ≡ true → readNumber lo hi (decimal n ++ r) ≡ cond (leb lo n && leb n hi) (number n r) outside
 unfolding readNumber
-read-decimal lo hi n r l h e =
-    rw (digits-of (decimal n) r (decimal-all n) (end-no-digit r e), past-of (decimal n) r (decimal-all n) (end-no-digit r e), plain-decimal n, e, value-decimal n, le-leb lo n l, le-leb n hi h)
+read-written lo hi n r e =
+    rw (digits-of (decimal n) r (decimal-all n) (end-no-digit r e), past-of (decimal n) r (decimal-all n) (end-no-digit r e), plain-decimal n, e, value-decimal n)
 
--- what reads as a number is that number, written
+pub read-decimal : (lo hi n : ℕ) (r : List ℕ) → lo ≤ n → n ≤ hi → fieldEnd r ≡ true → readNumber lo hi (decimal n ++ r) ≡ number n r
+read-decimal lo hi n r l h e = rw (read-written lo hi n r e, le-leb lo n l, le-leb n hi h)
+
+read-outside : (lo hi n : ℕ) (r : List ℕ) → (n < lo) ⊎ (hi < n) → fieldEnd r ≡ true → readNumber lo hi (decimal n ++ r) ≡ outside
+read-outside lo hi n r (inl h) e = rw (read-written lo hi n r e, lt-leb lo n h)
+read-outside lo hi n r (inr h) e = rw (read-written lo hi n r e, lt-leb n hi h, and-false (leb lo n))
+
+-- what a text is, told by what it reads as
 pub record Numbered (lo hi : ℕ) (s : List ℕ) (n : ℕ) (r : List ℕ) : Type 0 where
   pub text : s ≡ decimal n ++ r
   pub low : lo ≤ n
   pub high : n ≤ hi
   pub ends : fieldEnd r ≡ true
 
-pub number-read : (lo hi : ℕ) (s : List ℕ) (n : ℕ) (r : List ℕ) → readNumber lo hi s ≡ number n r → Numbered lo hi s n r
-unfolding readNumber
-number-read lo hi s n r e = go (plain (digits s) && fieldEnd (past s)) refl (leb lo (value 0 (digits s)) && leb (value 0 (digits s)) hi) refl
+abbrev ReadAs : ℕ → ℕ → List ℕ → Field → Type 0
+ReadAs lo hi s (number n r) = Numbered lo hi s n r
+ReadAs lo hi s malformed = (n : ℕ) (r : List ℕ) → s ≡ decimal n ++ r → fieldEnd r ≡ true → ⊥
+ReadAs lo hi s outside = (n : ℕ) × (r : List ℕ) × (s ≡ decimal n ++ r) × (fieldEnd r ≡ true) × ((n < lo) ⊎ (hi < n))
+
+written-as : (lo hi n : ℕ) (r : List ℕ) → fieldEnd r ≡ true → ReadAs lo hi (decimal n ++ r) (readNumber lo hi (decimal n ++ r))
+written-as lo hi n r e = go (decLt n lo) (decLt hi n)
   where
-    go : (t : Bool) → (plain (digits s) && fieldEnd (past s)) ≡ t → (u : Bool) → (leb lo (value 0 (digits s)) && leb (value 0 (digits s)) hi) ≡ u → Numbered lo hi s n r
-    go true p true q =
-        let w : number (value 0 (digits s)) (past s) ≡ number n r = rw (p, q) at e in
-        let v : value 0 (digits s) ≡ n = cc in
-        let x : past s ≡ r = cc in
-        let pe : (plain (digits s) ≡ true) × (fieldEnd (past s) ≡ true) = both _ _ p in
-        let qe : (leb lo (value 0 (digits s)) ≡ true) × (leb (value 0 (digits s)) hi ≡ true) = both _ _ q in
-        let d : decimal (value 0 (digits s)) ≡ digits s = decimal-plain (digits s) (pe .0) (digits-all s) in
-        record { text = sym (digits-past s) ∙ rw (← v, d, x); low = rw (← v) (leb-true _ _ (qe .0)); high = rw (← v) (leb-true _ _ (qe .1)); ends = rw (← x) (pe .1) }
-    go true p false q = let w : outside ≡ number n r = rw (p, q) at e in never cc
-    go false p u q = let w : malformed ≡ number n r = rw p at e in never cc
+    go : Dec (n < lo) → Dec (hi < n) → ReadAs lo hi (decimal n ++ r) (readNumber lo hi (decimal n ++ r))
+    go (yes h) d = rw (read-outside lo hi n r (inl h) e) (n, r, refl, e, inl h)
+    go (no h) (yes k) = rw (read-outside lo hi n r (inr k) e) (n, r, refl, e, inr k)
+    go (no h) (no k) =
+        rw (read-decimal lo hi n r (omega arith) (omega arith) e)
+        (record { text = refl; low = omega arith; high = omega arith; ends = e })
+
+never-malformed : (lo hi n : ℕ) (r : List ℕ) → fieldEnd r ≡ true → readNumber lo hi (decimal n ++ r) ≡ malformed → ⊥
+never-malformed lo hi n r e m = let w : ReadAs lo hi (decimal n ++ r) malformed = rw m at (written-as lo hi n r e) in w n r refl e
+
+abbrev Written : List ℕ → Type 0
+Written s = (n : ℕ) × (r : List ℕ) × (s ≡ decimal n ++ r) × (fieldEnd r ≡ true)
+
+written-or : (lo hi : ℕ) (s : List ℕ) → Written s ⊎ (readNumber lo hi s ≡ malformed)
+unfolding readNumber
+written-or lo hi s = go (plain (digits s) && fieldEnd (past s)) refl
+  where
+    go : (t : Bool) → (plain (digits s) && fieldEnd (past s)) ≡ t → Written s ⊎ (readNumber lo hi s ≡ malformed)
+    go true p =
+        let w : (plain (digits s) ≡ true) × (fieldEnd (past s) ≡ true) = both _ _ p in
+        inl (value 0 (digits s), past s, sym (digits-past s) ∙ rw (decimal-plain (digits s) (w .0) (digits-all s)), w .1)
+    go false p = inr (rw p)
+
+read-as : (lo hi : ℕ) (s : List ℕ) → ReadAs lo hi s (readNumber lo hi s)
+read-as lo hi s =
+    ⊎-elim
+    (λ w. rw (w .2) (written-as lo hi (w .0) (w .1) (w .3)))
+    (λ m. rw m (λ n r t e. never-malformed lo hi n r e (rw t at m)))
+    (written-or lo hi s)
+
+pub number-read : (lo hi : ℕ) (s : List ℕ) (n : ℕ) (r : List ℕ) → readNumber lo hi s ≡ number n r → Numbered lo hi s n r
+number-read lo hi s n r e = rw e at (read-as lo hi s)
+
+-- MALFORMED AND OUT OF RANGE, whatever the digit count
+pub malformed-exactly : (lo hi : ℕ) (s : List ℕ) → (readNumber lo hi s ≡ malformed) ↔ ((n : ℕ) (r : List ℕ) → s ≡ decimal n ++ r → fieldEnd r ≡ true → ⊥)
+malformed-exactly lo hi s =
+    (λ e. rw e at (read-as lo hi s), λ none. ⊎-elim (λ w. absurd (none (w .0) (w .1) (w .2) (w .3))) (λ m. m) (written-or lo hi s))
+
+pub outside-exactly : (lo hi : ℕ) (s : List ℕ) → (readNumber lo hi s ≡ outside) ↔ ((n : ℕ) × (r : List ℕ) × (s ≡ decimal n ++ r) × (fieldEnd r ≡ true) × ((n < lo) ⊎ (hi < n)))
+outside-exactly lo hi s =
+    (λ e. rw e at (read-as lo hi s), λ o. ap (readNumber lo hi) (o .2) ∙ read-outside lo hi (o .0) (o .1) (o .4) (o .3))
 
 -- a field that is not the last
 pub field-decimal : (lo hi n : ℕ) (r : List ℕ) → lo ≤ n → n ≤ hi → readField lo hi (decimal n ++ tab ∷ r) ≡ number n r

@@ -2,6 +2,7 @@
 //! it has a use for is changed, mostly to something wrong.
 
 pub mod memory;
+pub mod numbers;
 pub mod text;
 
 use crate::cases::damage::{another_length, damage_masks, damage_sizes, damage_tables};

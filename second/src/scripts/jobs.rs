@@ -1,6 +1,6 @@
 //! The program's jobs, right ones and wrong ones.
 
-use super::damage::damage;
+use super::damage::{damage, numbers};
 use super::sheets::sheet_lent;
 use crate::cases::{self, Scale};
 use crate::job::MOST_INPUT;
@@ -51,6 +51,27 @@ pub fn samples(script: &mut Script) {
     }
 }
 
+/// Sheets that are wrong by their form, a range, their order or a line feed, and jobs behind them.
+pub const WRONG_SHEETS: [&str; 8] = [
+    "size\t6\t3\t6\n",
+    "size\t0",
+    "size\t6\t3\t0\nfinal\t6\n",
+    "size\t6\t3\t0\nfinal\t999x\n",
+    "size\t6\t3\t0\nfinal\t2\nfinal\t1\n",
+    "size\t6\t3\t0\narc\t0\t0\t0\t1001",
+    "size\t6\t3\t0\narc\t0\t0\t0\t1000",
+    "size\t6\t3\t0\nfinal\t99999999999999999999999\n",
+];
+
+pub fn wrong_sheets(script: &mut Script) {
+    script.begin("jobs behind sheets with a number out of range, or otherwise wrong");
+    for sheet in WRONG_SHEETS {
+        ask(script, sheet);
+        ask(script, &format!("{sheet}\n{}", RIGHT_JOBS[0]));
+        ask(script, &format!("{sheet}\n{}", WRONG_DAYS_LINES[0]));
+    }
+}
+
 /// The edges of the job's own sizes.
 pub fn long(script: &mut Script) {
     script.begin("512 and 513 decisions in a job");
@@ -81,9 +102,18 @@ pub fn case(random: &mut Random, script: &mut Script) {
         let output = random.pick(&[OUTPUT, OUTPUT, OUTPUT, 40, 3, 0]);
         let (mut lent, mut call) = (job_lent(input.as_bytes(), output), Call::Job);
         for _ in 0..random.pick(&[0, 0, 0, 1, 1, 2]) {
-            damage(random, &mut lent, &mut call);
+            damage_job(random, &mut lent, &mut call);
         }
         script.call(&mut lent, call);
+    }
+}
+
+/// One change, at times to a number of the sheet.
+pub fn damage_job(random: &mut Random, lent: &mut Lent, call: &mut Call) {
+    if random.percent(25) {
+        numbers::spoil(random, &mut lent.input);
+    } else {
+        damage(random, lent, call);
     }
 }
 

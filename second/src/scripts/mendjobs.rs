@@ -1,7 +1,6 @@
 //! The mending program's jobs, right ones and wrong ones.
 
-use super::damage::damage;
-use super::jobs::{job_lent, job_lines, OUTPUT};
+use super::jobs::{damage_job, job_lent, job_lines, OUTPUT, WRONG_SHEETS};
 use crate::cases::{self, Scale};
 use crate::job::MOST_INPUT;
 use crate::random::Random;
@@ -61,6 +60,14 @@ fn wrong_lines(script: &mut Script) {
     }
 }
 
+pub fn wrong_sheets(script: &mut Script) {
+    script.begin("mending jobs behind sheets with a number out of range, or otherwise wrong");
+    for sheet in WRONG_SHEETS {
+        ask(script, &format!("{sheet}\n{}", RIGHT_MENDS[0]));
+        ask(script, &format!("{sheet}\n{}", WRONG_DAYS_LINES[0]));
+    }
+}
+
 /// The edges of the job's own sizes, and the longest text that is printed.
 pub fn long(script: &mut Script) {
     script.begin("512 and 513 decisions in a mending job");
@@ -93,7 +100,7 @@ pub fn case(random: &mut Random, script: &mut Script) {
         let output = random.pick(&[OUTPUT, OUTPUT, OUTPUT, 40, 3, 0]);
         let (mut lent, mut call) = (job_lent(input.as_bytes(), output), Call::MendJob);
         for _ in 0..random.pick(&[0, 0, 0, 1, 1, 2]) {
-            damage(random, &mut lent, &mut call);
+            damage_job(random, &mut lent, &mut call);
         }
         script.call(&mut lent, call);
     }

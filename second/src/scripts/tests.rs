@@ -1,6 +1,7 @@
 use super::edges::{CALLS, MENDING_CALLS, PATTERN_CALLS};
 use super::order::refusals;
 use super::*;
+use crate::samples::TESTED;
 use crate::script::{Call, CameTo};
 use crate::words::all_words;
 use crate::worked::{DRAWN_CASES, FIRST_CASES, KEPT_CASES, MENDED_CASES};
@@ -8,8 +9,9 @@ use std::collections::BTreeSet;
 use std::sync::OnceLock;
 
 /// "Checks run in the order 1, 2, 3, 4, 5, 12, 7, 8, 9, 10, 6, 11." Of request 7's own answers 15
-/// comes before 14, both behind 1 and 2; no call has them with any other.
-const ORDER: [u32; 14] = [1, 2, 3, 4, 5, 15, 14, 12, 7, 8, 9, 10, 6, 11];
+/// comes before 14, both behind 1 and 2; no call has them with any other. "In 01's check order 13
+/// stands with 5" (request 6).
+const ORDER: [u32; 15] = [1, 2, 3, 4, 5, 13, 15, 14, 12, 7, 8, 9, 10, 6, 11];
 
 /// Every call.
 fn all_calls() -> impl Iterator<Item = Call> {
@@ -51,7 +53,7 @@ fn every_call_meets_every_answer_that_it_can_give_and_no_other() {
     let met: BTreeSet<(&str, CameTo)> = calls.collect();
     let mut expected: BTreeSet<(&str, CameTo)> = BTreeSet::new();
     for (name, done) in [("job", "kept"), ("mendjob", "changes")] {
-        let words = [done, "none", "long", "sheet", "job"];
+        let words = [done, "none", "long", "sheet", "range", "job"];
         expected.extend(words.map(|word| (name, CameTo::Word(word.to_owned()))));
     }
     let words = ["size", "values", "pattern", "states"];
@@ -76,6 +78,14 @@ fn of_two_faults_the_one_that_is_checked_first_is_answered() {
         let name = format!("two faults in {}", call.name());
         assert_eq!(answers_by(script, &name), expected, "{call:?}");
     }
+}
+
+#[test]
+fn of_two_faults_of_a_line_the_one_that_is_tested_first_is_answered() {
+    let lines = printed_by(fixed(), "two faults in a line of a sheet");
+    let faulty = TESTED.iter().flat_map(|tested| tested.faulty());
+    let read = faulty.map(|(_, line, answer)| format!("read\t{answer}\t{line}\t0\t0\t0\t0"));
+    assert_eq!(lines, read.collect::<Vec<_>>());
 }
 
 #[test]
@@ -159,6 +169,20 @@ fn random_mends_meet_every_answer_and_every_number_of_changes() {
         assert!(begins(&format!("check\t{answer}\t0")) > 10, "check, answer {answer}");
     }
     assert!(begins("check\t0\t0") > 500 && begins("check\t0\t1") > 500);
+}
+
+#[test]
+fn random_jobs_meet_every_word() {
+    for (kind, name, done) in [("jobs", "job", "kept"), ("mendjobs", "mendjob", "changes")] {
+        let mut cases = Cases::only(kind, 6, 3_000).unwrap();
+        let mut script = Script::default();
+        while cases.add_next(&mut script) {}
+        for word in [done, "none", "sheet", "range", "job"] {
+            let call = Some((name, CameTo::Word(word.to_owned())));
+            let met = script.printed().filter(|printed| printed.call == call).count();
+            assert!(met > 100, "{name}: {word} in {met} calls");
+        }
+    }
 }
 
 #[test]

@@ -5,7 +5,7 @@ use lib.Seq.{length-take-le}
 use borrow.Author.Tests.{not-true, not-false}
 use Rattle.sheet.specs.Reading.{readOf}
 use Rattle.text.proofs.Putting.{wrote-is}
-use Rattle.job.specs.Output.{sheetLine, jobLine}
+use Rattle.job.specs.Output.{jobLine}
 use Rattle.job.specs.Inner.{program}
 use Rattle.job.proofs.Reading.{sheet-wrong, job-missing, job-there, read-right, rest-is}
 use borrow.Author.Needs.{needs}
@@ -24,11 +24,8 @@ read-sheet-requires c κs = search needs
 number-requires : tie.Need-number-requires
 number-requires c κs = search needs
 
-slice-aggregate-put-line : tie.Need-slice-aggregate-put-line
-slice-aggregate-put-line c = search needs
-
-put-line-requires : tie.Need-put-line-requires
-put-line-requires c κs = search needs
+put-wrong-requires : tie.Need-put-wrong-requires
+put-wrong-requires c κs = search needs
 
 same-length : tie.Need-same-length
 same-length c = search needs
@@ -40,15 +37,14 @@ same-length-3 : tie.Need-same-length-3
 same-length-3 c = search needs
 
 returns : tie.Need-returns
-unfolding sheetLine
-returns c = let a = c .before .before .before .before .before .before .before .before .before .before .before .before .before .before .before .before .before .before .before .before .args in
-    wrote-is _ _ _ _ _ _ (sheet-wrong (program (a .task)) (a .input .now) _ _ _ _ _ _ _ _ _ (c .before .before .before .before .before .before .before .before .before .before .before .read-sheet .ensures ∙ ap (λ (x : List ℕ). readOf x (a .targets .now) (a .costs .now)) (c .before .before .before .before .before .before .before .before .before .before .before .before .before .before .before .cut-at .ensures .sheet-is)) (λ z. c .before .before .before .before .before .if1 .taken (c .before .before .before .before .before .before .number .ensures ∙ z))) (c .before .before .put-line .ensures)
+returns c = let a = c .before .before .before .before .before .before .before .before .before .before .before .before .before .before .before .before .before .before .before .args in
+    wrote-is _ _ _ _ _ _ (sheet-wrong (program (a .task)) (a .input .now) _ _ _ _ _ _ _ _ _ (c .before .before .before .before .before .before .before .before .before .before .read-sheet .ensures ∙ ap (λ (x : List ℕ). readOf x (a .targets .now) (a .costs .now)) (c .before .before .before .before .before .before .before .before .before .before .before .before .before .before .cut-at .ensures .sheet-is)) (λ z. c .before .before .before .before .if1 .taken (c .before .before .before .before .before .number .ensures ∙ z))) (c .before .before .put-wrong .ensures)
 
-slice-aggregate-put-line-2 : tie.Need-slice-aggregate-put-line-2
-slice-aggregate-put-line-2 c = search needs
+slice-aggregate-put-line : tie.Need-slice-aggregate-put-line
+slice-aggregate-put-line c = search needs
 
-put-line-requires-2 : tie.Need-put-line-requires-2
-put-line-requires-2 c κs = search needs
+put-line-requires : tie.Need-put-line-requires
+put-line-requires c κs = search needs
 
 same-length-4 : tie.Need-same-length-4
 same-length-4 c = search needs
@@ -62,7 +58,7 @@ same-length-6 c = search needs
 returns-2 : tie.Need-returns-2
 unfolding jobLine
 returns-2 c = let a = c .before .before .before .before .before .before .before .before .before .before .before .before .before .before .before .before .before .before .before .before .before .before .args in
-    wrote-is _ _ _ _ _ _ (job-missing (program (a .task)) (a .input .now) _ _ _ _ _ _ _ _ _ (c .before .before .before .before .before .before .before .before .before .before .before .before .before .read-sheet .ensures ∙ ap (λ (x : List ℕ). readOf x (a .targets .now) (a .costs .now)) (c .before .before .before .before .before .before .before .before .before .before .before .before .before .before .before .before .before .cut-at .ensures .sheet-is)) (sym (c .before .before .before .before .before .before .before .before .number .ensures) ∙ c .before .before .before .before .before .before .before .if1 .left) (sym (c .before .before .before .before .before .before .before .before .before .before .before .before .before .before .before .before .before .cut-at .ensures .finds) ∙ not-true _ (c .before .before .before .before .before .if2 .taken))) (c .before .before .put-line2 .ensures)
+    wrote-is _ _ _ _ _ _ (job-missing (program (a .task)) (a .input .now) _ _ _ _ _ _ _ _ _ (c .before .before .before .before .before .before .before .before .before .before .before .before .before .read-sheet .ensures ∙ ap (λ (x : List ℕ). readOf x (a .targets .now) (a .costs .now)) (c .before .before .before .before .before .before .before .before .before .before .before .before .before .before .before .before .before .cut-at .ensures .sheet-is)) (sym (c .before .before .before .before .before .before .before .before .number .ensures) ∙ c .before .before .before .before .before .before .before .if1 .left) (sym (c .before .before .before .before .before .before .before .before .before .before .before .before .before .before .before .before .before .cut-at .ensures .finds) ∙ not-true _ (c .before .before .before .before .before .if2 .taken))) (c .before .before .put-line .ensures)
 
 sub-plan : tie.Need-sub-plan
 sub-plan c = search needs
@@ -97,14 +93,13 @@ job-in-spec =
     slice-aggregate-read-sheet
     read-sheet-requires
     number-requires
-    slice-aggregate-put-line
-    put-line-requires
+    put-wrong-requires
     same-length
     same-length-2
     same-length-3
     returns
-    slice-aggregate-put-line-2
-    put-line-requires-2
+    slice-aggregate-put-line
+    put-line-requires
     same-length-4
     same-length-5
     same-length-6

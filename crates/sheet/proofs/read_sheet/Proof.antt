@@ -41,6 +41,9 @@ take-sheet-requires c κs = search needs
 enum-known-judged : tie.Need-enum-known-judged
 enum-known-judged c = search needs
 
+answer-for-requires : tie.Need-answer-for-requires
+answer-for-requires c κs = search needs
+
 refused-requires-2 : tie.Need-refused-requires-2
 refused-requires-2 c κs = search needs
 
@@ -63,7 +66,7 @@ same-length-4 : tie.Need-same-length-4
 same-length-4 c = search needs
 
 returns-2 : tie.Need-returns-2
-returns-2 c = left-wrong _ _ _ _ _ _ _ _ (c .refused2 .ensures) (test-passed (c .before .before .before .before .before .before .before .before .before .before .before .before .tables-long .ensures) (c .before .before .before .before .before .before .before .before .before .before .before .if1 .left)) (took-is-wrong _ _ _ (c .before .before .before .before .before .before .before .before .take-sheet .result) _ _ _ _ (c .before .before .before .before .before .before .before .before .take-sheet .ensures) (c .before .before .judged .given .1)) (no-room (c .before .before .before .before .before .before .before .before .take-sheet .last .1 .0) (c .before .before .before .before .before .before .before .before .before .before .before .before .before .before .before .before .before .before .args .targets .now) (c .before .before .before .before .before .before .before .before .take-sheet .kept .1 .0)) (no-room (c .before .before .before .before .before .before .before .before .take-sheet .last .1 .1 .0) (c .before .before .before .before .before .before .before .before .before .before .before .before .before .before .before .before .before .before .args .costs .now) (c .before .before .before .before .before .before .before .before .take-sheet .kept .1 .1 .0))
+returns-2 c = left-wrong _ _ _ _ _ _ _ _ _ (c .before .answer-for .ensures) (c .refused2 .ensures) (test-passed (c .before .before .before .before .before .before .before .before .before .before .before .before .before .tables-long .ensures) (c .before .before .before .before .before .before .before .before .before .before .before .before .if1 .left)) (took-is-wrong _ _ _ (c .before .before .before .before .before .before .before .before .before .take-sheet .result) _ _ _ _ (c .before .before .before .before .before .before .before .before .before .take-sheet .ensures) (c .before .before .before .judged .given .1)) (no-room (c .before .before .before .before .before .before .before .before .before .take-sheet .last .1 .0) (c .before .before .before .before .before .before .before .before .before .before .before .before .before .before .before .before .before .before .before .args .targets .now) (c .before .before .before .before .before .before .before .before .before .take-sheet .kept .1 .0)) (no-room (c .before .before .before .before .before .before .before .before .before .take-sheet .last .1 .1 .0) (c .before .before .before .before .before .before .before .before .before .before .before .before .before .before .before .before .before .before .before .args .costs .now) (c .before .before .before .before .before .before .before .before .before .take-sheet .kept .1 .1 .0))
 
 same-length-5 : tie.Need-same-length-5
 same-length-5 c = search needs
@@ -89,6 +92,7 @@ read-sheet-spec =
     slice-aggregate-take-sheet-2
     take-sheet-requires
     enum-known-judged
+    answer-for-requires
     refused-requires-2
     enum-known-judged-2
     mul-clear

@@ -5,6 +5,8 @@
 //!   and compares what it prints. The last line is `N passed, M failed`.
 //! - `scripts only KIND SEED COUNT PROGRAM [ARGUMENT...]` does the same with random cases of
 //!   one kind alone.
+//! - `scripts tally SEED COUNT` tells what `only sheets SEED COUNT` reads: how many sheets are
+//!   damaged, how many of these have a number out of range, and what readings come to.
 //!
 //! The first two begin with the fixed cases and go on with random ones from the seed. All make
 //! at least COUNT calls.
@@ -12,13 +14,15 @@
 mod compare;
 
 use second::script::{Script, MOST_BYTES};
+use second::scripts::tally::{tally, Tally};
 use second::scripts::Cases;
 use std::process::ExitCode;
 use std::{env, fs, io};
 
 const USAGE: &str = "usage: scripts write SEED COUNT SCRIPT ANSWERS\n       \
     scripts compare SEED COUNT PROGRAM [ARGUMENT...]\n       \
-    scripts only KIND SEED COUNT PROGRAM [ARGUMENT...]";
+    scripts only KIND SEED COUNT PROGRAM [ARGUMENT...]\n       \
+    scripts tally SEED COUNT";
 
 fn main() -> ExitCode {
     let arguments: Vec<String> = env::args().skip(1).collect();
@@ -32,6 +36,10 @@ fn main() -> ExitCode {
         ["only", kind, seed, count, program, rest @ ..] => {
             cases_of(kind, seed, count).map(|cases| compare::compare(cases, program, rest))
         }
+        ["tally", seed, count] => seed_and_count(seed, count).map(|(seed, count)| {
+            print_tally(&tally(seed, count));
+            Ok(true)
+        }),
         _ => None,
     };
     match done {
@@ -47,12 +55,23 @@ fn main() -> ExitCode {
     }
 }
 
+fn seed_and_count(seed: &str, count: &str) -> Option<(u64, usize)> {
+    Some((seed.parse().ok()?, count.parse().ok()?))
+}
+
 fn cases(seed: &str, count: &str) -> Option<Cases> {
-    Some(Cases::new(seed.parse().ok()?, count.parse().ok()?))
+    seed_and_count(seed, count).map(|(seed, count)| Cases::new(seed, count))
 }
 
 fn cases_of(kind: &str, seed: &str, count: &str) -> Option<Cases> {
-    Cases::only(kind, seed.parse().ok()?, count.parse().ok()?)
+    seed_and_count(seed, count).and_then(|(seed, count)| Cases::only(kind, seed, count))
+}
+
+fn print_tally(tally: &Tally) {
+    let Tally { readings, damaged, outside, came_to } = tally;
+    println!("{readings} readings, {damaged} of a damaged sheet");
+    println!("{outside} damaged sheets with a number out of range");
+    came_to.iter().for_each(|(came_to, count)| println!("read: {came_to} in {count} calls"));
 }
 
 /// Writes one script of all the cases, and the lines that it must print.
