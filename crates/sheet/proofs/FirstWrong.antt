@@ -23,7 +23,7 @@ use Rattle.sheet.specs.Reading.{sheetAnswer, wrongLine, readChecks, read
 use Rattle.sheet.specs.Inner.{Sized}
 use Rattle.sheet.proofs.Faults.{size-by-fields, line-by-fields}
 use Rattle.sheet.proofs.Answering.{reads-short, long-told}
-use Rattle.sheet.proofs.Texts.{Rising, size-read, onJudged-sheet, withLine-sheet, rest-read, sheet-text, sheet-read}
+use Rattle.sheet.proofs.Texts.{Rising, joined, lines-joined, size-read, onJudged-sheet, withLine-sheet, rest-read, sheet-text, sheet-read}
 
 -- where lines from number k on break off: right lines, then a wrong one
 record Broken (z : Size) (next k : ℕ) (ls : List (List ℕ)) (n : ℕ) (f : Fault) : Type 0 where
@@ -168,11 +168,11 @@ seen s = go (lines s) refl
     first l ls e (wrong f) r = top l ls e (sym (size-by-fields l (line-is s [] l ls e)) ∙ r)
 
     go : (ls : List (List ℕ)) → lines s ≡ ls → Seen s (readLines ls)
-    go [] e = empty e
+    go [] e = empty (sym (lines-joined s) ∙ ap joined e)
     go (l ∷ ls) e = first l ls e (readSize l) refl
 
 refused : (s : List ℕ) (n : ℕ) (f : Fault) → FirstWrong s n f → readSheet s ≡ wrongAt n f
-unfolding readSheet readLines
+unfolding readSheet readLines lines
 refused s n f (empty e) = rw e
 refused s n f (top l after e j) = rw (e, size-by-fields l (line-is s [] l after e), j)
 refused s n f (later [] z said l after e r j) = never cc

@@ -166,7 +166,7 @@ sheet-text z ls g h =
 abbrev pub joined : List (List ℕ) → List ℕ
 joined ls = each (λ l. l) ls
 
-lines-joined : (s : List ℕ) → joined (lines s) ≡ s
+pub lines-joined : (s : List ℕ) → joined (lines s) ≡ s
 unfolding lines
 lines-joined [] = refl
 lines-joined (b ∷ s) = go (eqb b feed) (lines s) ∙ ap (λ (t : List ℕ). b ∷ t) (lines-joined s)

@@ -82,15 +82,15 @@ faulty =
     -- no states, no values, too many, and a start that is none of the states
     ∷ top "size\t0\t3\t0\n" 13
     ∷ top "size\t6\t0\t0\n" 13
-    ∷ top "size\t65\t3\t0\n" 13
-    ∷ top "size\t6\t17\t0\n" 13
+    ∷ top "size\t99\t3\t0\n" 13
+    ∷ top "size\t6\t99\t0\n" 13
     ∷ top "size\t6\t3\t6\n" 13
     -- the first fault decides: what is behind it is not looked at
     ∷ top "size\t0\n" 13
     ∷ top "size\t0\tx\t0\n" 13
     ∷ top "size\tx\t0\t0\n" 5
     ∷ top "size\t00\t0\t0\n" 5
-    ∷ top "size\t6\t17\t00\t7" 13
+    ∷ top "size\t6\t99\t00\t7" 13
     ∷ top "size\t6\n" 5
     ∷ top "size\t6\t3\t6" 13
     ∷ top "size\t6\t3\t0" 5

@@ -31,7 +31,8 @@ sizeTests l =
 abbrev pub sizeIn : List ℕ → Size
 sizeIn l = sizeOf (fieldValue 1 l) (fieldValue 2 l) (fieldValue 3 l)
 
--- a line after it: `final` and a state, or `arc`, state, value, target and cost; in order, it stands behind the places that lines before it have taken
+-- a line after it: `final` and a state, or `arc`, state, value, target and cost; any other first field is a fault of form. A line in order stands
+-- behind the places that lines before it have taken
 abbrev pub finalIn : List ℕ → Line
 finalIn l = final (fieldValue 1 l)
 
@@ -61,9 +62,9 @@ unfoldable pub nextAfter : Size → ℕ → List Line → ℕ
 nextAfter z next [] = next
 nextAfter z next (l ∷ ls) = nextAfter z (suc (place z l)) ls
 
--- THE FIRST WRONG LINE of a text, from 1, and its first fault: an empty text is wrong at line 1
+-- THE FIRST WRONG LINE of a text, from 1, and its first fault: an empty text is wrong at line 1; otherwise the lines before it are a right sheet
 pub data FirstWrong (s : List ℕ) : ℕ → Fault → Type 0 where
-  empty : lines s ≡ [] → FirstWrong s 1 Form
+  empty : s ≡ [] → FirstWrong s 1 Form
   top : {f : Fault} (l : List ℕ) (after : List (List ℕ)) → lines s ≡ l ∷ after → judged (sizeTests l) (sizeIn l) ≡ wrong f → FirstWrong s 1 f
   later : {f : Fault} (before : List (List ℕ)) (z : Size) (ls : List Line) (l : List ℕ) (after : List (List ℕ)) → lines s ≡ before ++ l ∷ after
       → readLines before ≡ sheet z ls → judged (lineTests z (nextAfter z 0 ls) l) (lineIn l) ≡ wrong f → FirstWrong s (suc (length before)) f
