@@ -112,7 +112,7 @@ NoDigit (b ∷ s) = isDigit b ≡ false
 digit-is : (d : ℕ) → nought ≤ d → d ≤ 57 → isDigit d ≡ true
 digit-is d a b = rw (le-leb nought d a, le-leb d 57 b)
 
-is-digit : (d : ℕ) → isDigit d ≡ true → (nought ≤ d) × (d ≤ 57)
+pub is-digit : (d : ℕ) → isDigit d ≡ true → (nought ≤ d) × (d ≤ 57)
 is-digit d e = let w = both (leb nought d) (leb d 57) e in (leb-true nought d (w .0), leb-true d 57 (w .1))
 
 pub digits-only : (ds : List ℕ) → all isDigit ds ≡ true → AllDigits ds

@@ -24,7 +24,7 @@ use Rattle.text.specs.declared.numbers.Number.{Number}
 use Rattle.text.specs.declared.numbers.Number.the-variants.{Value, Malformed, Outside}
 use Rattle.text.proofs.bytes.Sort.{the-type}
 use Rattle.text.proofs.numbers.Number.{the-type as number-type}
-use Rattle.text.proofs.Decimals.{digits-past}
+use Rattle.text.proofs.Decimals.{is-digit, digits-past}
 
 pub sort-digit : (b : ℕ) → 48 ≤ b → b ≤ 57 → Digit ≡ sortOf b
 unfolding sortOf
@@ -63,7 +63,7 @@ unfolding sortOf
 digit-sort b e = go (isDigit b) refl
   where
     go : (t : Bool) → isDigit b ≡ t → (48 ≤ b) × (b ≤ 57)
-    go true h = let w : (leb 48 b ≡ true) × (leb b 57 ≡ true) = both _ _ h in (leb-true 48 b (w .0), leb-true b 57 (w .1))
+    go true h = is-digit b h
     go false h = later (eqb b 9) (eqb b 10) (leb 97 b && leb b 122) (rw h at e)
       where
         later : (x y z : Bool) → cond x Tab (cond y Feed (cond z Small Other)) ≡ Digit → (48 ≤ b) × (b ≤ 57)
@@ -98,7 +98,7 @@ pub not-digit-sort : (b : ℕ) → (sortOf b ≡ Digit → ⊥) → isDigit b �
 not-digit-sort b e = go (isDigit b) refl
   where
     go : (t : Bool) → isDigit b ≡ t → isDigit b ≡ false
-    go true h = let w : (leb 48 b ≡ true) × (leb b 57 ≡ true) = both _ _ h in absurd (e (sym (sort-digit b (leb-true 48 b (w .0)) (leb-true b 57 (w .1)))))
+    go true h = let w = is-digit b h in absurd (e (sym (sort-digit b (w .0) (w .1))))
     go false h = h
 
 pub small-sort : (b : ℕ) → sortOf b ≡ Small → isSmall b ≡ true
