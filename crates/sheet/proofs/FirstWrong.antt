@@ -2,86 +2,67 @@
 use mathlib.Core.Path.{_≡_, refl, ap, sym, _∙_}
 use mathlib.Core.Logic.{_⊎_, inl, inr, _↔_}
 use mathlib.Core.Bool.{Bool, true, false, not}
-use mathlib.Core.List.{List, [], _∷_, _++_}
-use Prim.Native.Nat.{ℕ, suc, _+_}
+use mathlib.Core.List.{List, [], _∷_, _++_, append-assoc}
+use Prim.Native.Nat.{ℕ, suc}
 use native.Mathlib.Omega.{arith}
 use lib.Dec.{eqb}
-use lib.ListN.{length}
+use lib.ListN.{length, length-append}
 use borrow.Author.Tests.{eqb-false}
 use Rattle.rules.specs.Checks.{tablesLong}
 use Rattle.rules.specs.Answers.{check, decided}
 use Rattle.rules.specs.declared.Size.{Size}
 use Rattle.rules.proofs.Checks.{never}
 use Rattle.text.specs.Lines.{Judged, right, wrong, lines, onJudged}
+use Rattle.text.specs.Fields.{judged}
 use Rattle.text.specs.declared.lines.Fault.{Fault}
 use Rattle.text.specs.declared.lines.Fault.the-variants.{Form, Range, Order, Cut}
 use Rattle.text.proofs.Cutting.{line-is}
-use Rattle.sheet.specs.Lines.{Line, place, readSize, readLine}
+use Rattle.sheet.specs.Lines.{Line, place, readLine}
 use Rattle.sheet.specs.Sheets.{Sheet, sheet, wrongAt, withLine, readRest, readLines, readSheet, textOf}
-use Rattle.sheet.specs.Faults.{nextAfter, FirstWrong, empty, top, later}
+use Rattle.sheet.specs.Faults.{sizeTests, sizeIn, lineTests, lineIn, RightLines, sized, lined, FirstWrong, empty, top, later}
 use Rattle.sheet.specs.Reading.{sheetAnswer, wrongLine, readChecks, readRefused, readDone, readOf}
 use Rattle.sheet.specs.Inner.{Sized}
 use Rattle.sheet.proofs.Faults.{size-by-fields, line-by-fields}
 use Rattle.sheet.proofs.Answering.{reads-short, long-told}
-use Rattle.sheet.proofs.Texts.{Rising, joined, lines-joined, size-read, onJudged-sheet, withLine-sheet, rest-read, sheet-text, sheet-read}
+use Rattle.sheet.proofs.Texts.{Rising, joined, lines-joined, sheet-text, sheet-read}
 
--- where lines from number k on break off: right lines, then a wrong one
-record Broken (z : Size) (next k : ℕ) (ls : List (List ℕ)) (n : ℕ) (f : Fault) : Type 0 where
-  before : List (List ℕ)
-  said : List Line
-  line : List ℕ
-  after : List (List ℕ)
-  split : ls ≡ before ++ line ∷ after
-  read : readRest z next k before ≡ sheet z said
-  fault : readLine z (nextAfter z next said) line ≡ wrong f
-  number : n ≡ k + length before
-
--- lines that read as a wrong sheet break off there
-abbrev RestSeen : Size → ℕ → ℕ → List (List ℕ) → Sheet → Type 0
-RestSeen z next k ls (sheet y said) = Unit
-RestSeen z next k ls (wrongAt n f) = Broken z next k ls n f
-
-rest-seen : (z : Size) (next k : ℕ) (ls : List (List ℕ)) → RestSeen z next k ls (readRest z next k ls)
-unfolding readRest nextAfter
-rest-seen z next k [] = tt
-rest-seen z next k (l ∷ ls) = go (readLine z next l) refl (λ p. rest-seen z p (suc k) ls)
-  where
-    more : (a : Line) → readLine z next l ≡ right a → (x : Sheet) → RestSeen z (suc (place z a)) (suc k) ls x → RestSeen z next k (l ∷ ls) (withLine a x)
-    more a e (sheet y said) b = tt
-    more a e (wrongAt n f) b =
-        record {
-          before = l ∷ b .before;
-          said = a ∷ b .said;
-          line = b .line;
-          after = b .after;
-          split = ap (λ (m : List (List ℕ)). l ∷ m) (b .split);
-          read = rw (e, b .read);
-          fault = b .fault;
-          number = omega (arith, b .number);
-        }
-
-    go : (x : Judged Line) → readLine z next l ≡ x → ((p : ℕ) → RestSeen z p (suc k) ls (readRest z p (suc k) ls))
-        → RestSeen z next k (l ∷ ls) (onJudged x (λ a. withLine a (readRest z (suc (place z a)) (suc k) ls)) (wrongAt k))
-    go (right a) e rec = more a e (readRest z (suc (place z a)) (suc k) ls) (rec (suc (place z a)))
-    go (wrong f) e rec = record { before = []; said = []; line = l; after = ls; split = refl; read = refl; fault = e; number = omega arith }
-
--- and lines that break off read so
-rest-wrong : (z : Size) (next k : ℕ) (before : List (List ℕ)) (y : Size) (said : List Line) (l : List ℕ) (after : List (List ℕ)) (n : ℕ) (f : Fault)
-    → readRest z next k before ≡ sheet y said → readLine z (nextAfter z next said) l ≡ wrong f → n ≡ k + length before → readRest z next k (before ++ l ∷ after) ≡ wrongAt n f
-unfolding readRest nextAfter
-rest-wrong z next k [] y said l after n f r e h =
-    let s : said ≡ [] = cc in
-    let m : k ≡ n = omega arith in
-    rw (rw s at e, m)
-rest-wrong z next k (b ∷ before) y said l after n f r e h =
-    let (a, e1, r1) = onJudged-sheet (readLine z next b) _ k y said r in
-    let (ms, r2, s) = withLine-sheet a _ y said r1 in
-    rw (e1, rest-wrong z (suc (place z a)) (suc k) before y ms l after n f r2 (rw s at e) (omega arith))
+-- behind right lines the rest of a text decides
+read-on : (s : List ℕ) {before : List (List ℕ)} {z : Size} {next : ℕ} → RightLines before z next → (rest : List (List ℕ)) (n : ℕ) (f : Fault) → lines s ≡ before ++ rest
+    → readRest z next (suc (length before)) rest ≡ wrongAt n f → readSheet s ≡ wrongAt n f
+unfolding readSheet readLines readRest
+read-on s (sized l z j) rest n f e w = rw (e, size-by-fields l (line-is s [] l rest e), j, w)
+read-on s (lined {ls = ls} {z = z} {next = next} r l a j) rest n f e w =
+    let d : lines s ≡ ls ++ l ∷ rest = e ∙ append-assoc ls (l ∷ []) rest in
+    let k : length (ls ++ l ∷ []) ≡ suc (length ls) = omega (arith, length-append ls (l ∷ [])) in
+    read-on s r (l ∷ rest) n f d (rw (line-by-fields z next l (line-is s ls l rest d), j, rw k at w))
 
 -- a text that reads as a wrong sheet has that first wrong line
 abbrev Seen : List ℕ → Sheet → Type 0
 Seen s (sheet z ls) = Unit
 Seen s (wrongAt n f) = FirstWrong s n f
+
+with-seen : (s : List ℕ) (a : Line) (x : Sheet) → Seen s x → Seen s (withLine a x)
+with-seen s a (sheet z ls) w = tt
+with-seen s a (wrongAt n f) w = w
+
+rest-seen : (s : List ℕ) {before : List (List ℕ)} {z : Size} {next : ℕ} → RightLines before z next → (rest : List (List ℕ)) → lines s ≡ before ++ rest
+    → Seen s (readRest z next (suc (length before)) rest)
+unfolding readRest
+rest-seen s r [] e = tt
+rest-seen s {before = before} {z = z} {next = next} r (l ∷ rest) e =
+    go (readLine z next l) refl (λ a w. rest-seen s (lined r l a w) rest (e ∙ sym (append-assoc before (l ∷ []) rest)))
+  where
+    j : readLine z next l ≡ judged (lineTests z next l) (lineIn l)
+    j = line-by-fields z next l (line-is s before l rest e)
+
+    k : length (before ++ l ∷ []) ≡ suc (length before)
+    k = omega (arith, length-append before (l ∷ []))
+
+    go : (x : Judged Line) → readLine z next l ≡ x
+        → ((a : Line) → judged (lineTests z next l) (lineIn l) ≡ right a → Seen s (readRest z (suc (place z a)) (suc (length (before ++ l ∷ []))) rest))
+        → Seen s (onJudged x (λ a. withLine a (readRest z (suc (place z a)) (suc (suc (length before))) rest)) (wrongAt (suc (length before))))
+    go (right a) w rec = with-seen s a (readRest z (suc (place z a)) (suc (suc (length before))) rest) (rw k at (rec a (sym j ∙ w)))
+    go (wrong f) w rec = later before l rest e r (sym j ∙ w)
 
 -- what a sheet is, by the answer that it gets
 data Kind : ℕ → Sheet → Type 0 where
@@ -155,33 +136,20 @@ seen : (s : List ℕ) → Seen s (readSheet s)
 unfolding readSheet readLines
 seen s = go (lines s) refl
   where
-    rest : (l : List ℕ) (ls : List (List ℕ)) → lines s ≡ l ∷ ls → (z : Size) → readSize l ≡ right z → (x : Sheet) → RestSeen z 0 2 ls x → Seen s x
-    rest l ls e z r (sheet y said) b = tt
-    rest l ls e z r (wrongAt n f) b =
-        let w : lines s ≡ (l ∷ b .before) ++ b .line ∷ b .after = e ∙ ap (λ (m : List (List ℕ)). l ∷ m) (b .split) in
-        let m : n ≡ suc (suc (length (b .before))) = omega (arith, b .number) in
-        let j = line-by-fields z (nextAfter z 0 (b .said)) (b .line) (line-is s (l ∷ b .before) (b .line) (b .after) w) in
-        rw m (later (l ∷ b .before) z (b .said) (b .line) (b .after) w (rw r (b .read)) (sym j ∙ b .fault))
-
-    first : (l : List ℕ) (ls : List (List ℕ)) → lines s ≡ l ∷ ls → (x : Judged Size) → readSize l ≡ x → Seen s (onJudged x (λ z. readRest z 0 2 ls) (wrongAt 1))
-    first l ls e (right z) r = rest l ls e z r (readRest z 0 2 ls) (rest-seen z 0 2 ls)
-    first l ls e (wrong f) r = top l ls e (sym (size-by-fields l (line-is s [] l ls e)) ∙ r)
+    first : (l : List ℕ) (ls : List (List ℕ)) → lines s ≡ l ∷ ls → (x : Judged Size) → judged (sizeTests l) (sizeIn l) ≡ x → Seen s (onJudged x (λ z. readRest z 0 2 ls) (wrongAt 1))
+    first l ls e (right z) j = rest-seen s (sized l z j) ls e
+    first l ls e (wrong f) j = top l ls e j
 
     go : (ls : List (List ℕ)) → lines s ≡ ls → Seen s (readLines ls)
     go [] e = empty (sym (lines-joined s) ∙ ap joined e)
-    go (l ∷ ls) e = first l ls e (readSize l) refl
+    go (l ∷ ls) e = rw (size-by-fields l (line-is s [] l ls e)) (first l ls e (judged (sizeTests l) (sizeIn l)) refl)
 
 refused : (s : List ℕ) (n : ℕ) (f : Fault) → FirstWrong s n f → readSheet s ≡ wrongAt n f
-unfolding readSheet readLines lines
+unfolding readSheet readLines readRest lines
 refused s n f (empty e) = rw e
 refused s n f (top l after e j) = rw (e, size-by-fields l (line-is s [] l after e), j)
-refused s n f (later [] z said l after e r j) = never cc
-refused s n f (later (b ∷ before) z said l after e r j) =
-    let (y, e1, r1) = onJudged-sheet (readSize b) _ 1 z said r in
-    let g : Sized y = size-read b y e1 .1 in
-    let w : z ≡ y = rest-read y 0 2 before z said (g .some-states) (g .some-values) r1 .same in
-    let k = line-by-fields y (nextAfter y 0 said) l (line-is s (b ∷ before) l after e) in
-    rw (e, e1) (rest-wrong y 0 2 before z said l after _ f r1 (k ∙ rw w at j) (omega arith))
+refused s n f (later {z = z} {next = next} before l after e r j) =
+    read-on s r (l ∷ after) _ f e (rw (line-by-fields z next l (line-is s before l after e), j))
 
 -- A SHEET IS REFUSED FOR ITS FIRST WRONG LINE and the first fault of that line
 pub first-wrong : (s : List ℕ) (n : ℕ) (f : Fault) → (readSheet s ≡ wrongAt n f) ↔ FirstWrong s n f

@@ -176,11 +176,11 @@ lines-joined (b ∷ s) = go (eqb b feed) (lines s) ∙ ap (λ (t : List ℕ). b 
     go false [] = refl
     go false (l ∷ ls) = refl
 
-pub onJudged-sheet : {A : Type 0} (x : Judged A) (f : A → Sheet) (n : ℕ) (z : Size) (ls : List Line) → onJudged x f (λ y. wrongAt n y) ≡ sheet z ls → (a : A) × (x ≡ right a) × (f a ≡ sheet z ls)
+onJudged-sheet : {A : Type 0} (x : Judged A) (f : A → Sheet) (n : ℕ) (z : Size) (ls : List Line) → onJudged x f (λ y. wrongAt n y) ≡ sheet z ls → (a : A) × (x ≡ right a) × (f a ≡ sheet z ls)
 onJudged-sheet (right a) f n z ls e = (a, refl, e)
 onJudged-sheet (wrong y) f n z ls e = never cc
 
-pub withLine-sheet : (a : Line) (x : Sheet) (z : Size) (ls : List Line) → withLine a x ≡ sheet z ls → (ms : List Line) × (x ≡ sheet z ms) × (ls ≡ a ∷ ms)
+withLine-sheet : (a : Line) (x : Sheet) (z : Size) (ls : List Line) → withLine a x ≡ sheet z ls → (ms : List Line) × (x ≡ sheet z ms) × (ls ≡ a ∷ ms)
 withLine-sheet a (sheet y ms) z ls e = (ms, cc, cc)
 withLine-sheet a (wrongAt n f) z ls e = never cc
 
@@ -194,7 +194,7 @@ rest-more : (z : Size) (next : ℕ) (L : List ℕ) (Ls : List (List ℕ)) (y : S
 rest-more z next L Ls y l ms ls a b e =
     rw e (record { same = b .same; text = rw (a .text, b .text); rising = (a .good, a .later, b .rising) })
 
-pub rest-read : (z : Size) (next n : ℕ) (Ls : List (List ℕ)) (y : Size) (ls : List Line) → 1 ≤ z .states → 1 ≤ z .values
+rest-read : (z : Size) (next n : ℕ) (Ls : List (List ℕ)) (y : Size) (ls : List Line) → 1 ≤ z .states → 1 ≤ z .values
     → readRest z next n Ls ≡ sheet y ls → Rested z next Ls y ls
 unfolding readRest
 rest-read z next n [] y ls h k e =

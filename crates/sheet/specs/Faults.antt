@@ -8,12 +8,11 @@ use lib.ListN.{length}
 use Rattle.meaning.specs.Bounds.{mostStates, mostValues, mostCost}
 use Rattle.rules.specs.declared.Size.{Size}
 use Rattle.text.specs.Numbers.{value}
-use Rattle.text.specs.Lines.{wrong, lines}
+use Rattle.text.specs.Lines.{right, wrong, lines}
 use Rattle.text.specs.Fields.{field, Test, test, judged, isWord, numberTest, lastTests}
 use Rattle.text.specs.declared.lines.Fault.{Fault}
 use Rattle.text.specs.declared.lines.Fault.the-variants.{Form}
 use Rattle.sheet.specs.Lines.{sizeOf, Line, final, arc, sizeName, finalName, arcName, place}
-use Rattle.sheet.specs.Sheets.{sheet, readLines}
 
 -- the number in field k of a line
 abbrev pub fieldValue : ℕ → List ℕ → ℕ
@@ -57,14 +56,15 @@ lineTests z next l =
 abbrev pub lineIn : List ℕ → Line
 lineIn l = cond (isWord finalName (field 0 l)) (finalIn l) (arcIn l)
 
--- the first place that lines leave free
-unfoldable pub nextAfter : Size → ℕ → List Line → ℕ
-nextAfter z next [] = next
-nextAfter z next (l ∷ ls) = nextAfter z (suc (place z l)) ls
+-- right lines, a size line first: the size, and the first place that they leave free
+pub data RightLines : List (List ℕ) → Size → ℕ → Type 0 where
+  sized : (l : List ℕ) (z : Size) → judged (sizeTests l) (sizeIn l) ≡ right z → RightLines (l ∷ []) z 0
+  lined : {ls : List (List ℕ)} {z : Size} {next : ℕ} → RightLines ls z next → (l : List ℕ) (a : Line) → judged (lineTests z next l) (lineIn l) ≡ right a
+      → RightLines (ls ++ l ∷ []) z (suc (place z a))
 
--- THE FIRST WRONG LINE of a text, from 1, and its first fault: an empty text is wrong at line 1; otherwise the lines before it are a right sheet
+-- THE FIRST WRONG LINE of a text, from 1, and its first fault: an empty text is wrong at line 1; the lines before a wrong one are right
 pub data FirstWrong (s : List ℕ) : ℕ → Fault → Type 0 where
   empty : s ≡ [] → FirstWrong s 1 Form
   top : {f : Fault} (l : List ℕ) (after : List (List ℕ)) → lines s ≡ l ∷ after → judged (sizeTests l) (sizeIn l) ≡ wrong f → FirstWrong s 1 f
-  later : {f : Fault} (before : List (List ℕ)) (z : Size) (ls : List Line) (l : List ℕ) (after : List (List ℕ)) → lines s ≡ before ++ l ∷ after
-      → readLines before ≡ sheet z ls → judged (lineTests z (nextAfter z 0 ls) l) (lineIn l) ≡ wrong f → FirstWrong s (suc (length before)) f
+  later : {f : Fault} {z : Size} {next : ℕ} (before : List (List ℕ)) (l : List ℕ) (after : List (List ℕ)) → lines s ≡ before ++ l ∷ after
+      → RightLines before z next → judged (lineTests z next l) (lineIn l) ≡ wrong f → FirstWrong s (suc (length before)) f
