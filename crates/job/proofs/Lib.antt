@@ -5,6 +5,7 @@ pub mod Printing
 pub mod Showing
 pub mod Planning
 pub mod Reading
+pub mod Causes
 pub mod Seeking
 pub mod Drawing
 pub mod Wishing

@@ -52,15 +52,16 @@ pub short-input : (p : Program) (s : List ℕ) → length s ≤ longestInput →
 unfolding programText
 short-input p s h = rw (le-ltb longestInput (length s) h)
 
--- OF A WRONG SHEET its first wrong line is printed: behind `range` where its first fault is a number out of range, behind `sheet` otherwise
-pub prints-wrong : (p : Program) (s : List ℕ) (n : ℕ) (f : Fault) → length s ≤ longestInput → FirstWrong (before true s) n f → wrongText (faultAnswer f) n ≡ programText p s
-unfolding tablesLong
-prints-wrong p s n f h w =
-    sheet-wrong p s (readOf (before true s) none none) (faultAnswer f) n 0 0 0 0 none none (sym (reads-wrong (before true s) none none n f full (first-wrong (before true s) n f .1 w))) (fault-answers f)
-    ∙ short-input p s h
-  where
-    none : List ℕ
-    none = replicate tableSize 0
+-- the tables that a program has itself
+abbrev pub blankTable : List ℕ
+blankTable = replicate tableSize 0
 
-    full : tablesLong none none ≡ true
-    full = refl
+pub blank-long : tablesLong blankTable blankTable ≡ true
+unfolding tablesLong
+blank-long = refl
+
+-- OF A WRONG SHEET its first wrong line is printed: behind `range` where its first fault is a number out of range, behind `sheet` otherwise
+pub prints-wrong : (p : Program) (s : List ℕ) (n : ℕ) (f : Fault) → length s ≤ longestInput → FirstWrong (before true s) n f → programText p s ≡ wrongText (faultAnswer f) n
+prints-wrong p s n f h w =
+    let e = reads-wrong (before true s) blankTable blankTable n f blank-long (first-wrong (before true s) n f .1 w) in
+    sym (sheet-wrong p s (readOf (before true s) blankTable blankTable) (faultAnswer f) n 0 0 0 0 blankTable blankTable (sym e) (fault-answers f) ∙ short-input p s h)
