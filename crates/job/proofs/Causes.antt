@@ -12,16 +12,15 @@ use Rattle.meaning.specs.Meaning.{Rules, Place, rulesOf, rosters, verdictOf}
 use Rattle.mending.specs.Mending.{mended}
 use Rattle.rules.specs.declared.Size.{Size}
 use Rattle.text.specs.Bytes.{feed}
-use Rattle.text.specs.Numbers.{decimal, digits, value}
+use Rattle.text.specs.Numbers.{fieldEnd}
 use Rattle.text.specs.Lines.{Judged, right, wrong, lines, onJudged}
 use Rattle.text.specs.declared.lines.Fault.{Fault}
-use Rattle.text.specs.declared.lines.Fault.the-variants.{Form, Range, Order, Cut}
-use Rattle.text.proofs.Decimals.{decimal-all, digits-of, value-decimal}
+use Rattle.text.proofs.Decimals.{decimal-one}
 use Rattle.sheet.specs.Lines.{Line}
 use Rattle.sheet.specs.Sheets.{sheet, readSheet}
 use Rattle.sheet.specs.Faults.{FirstWrong}
 use Rattle.sheet.specs.Reading.{Outcome, faultAnswer}
-use Rattle.sheet.proofs.Answering.{reads-right}
+use Rattle.sheet.proofs.Answering.{reads-right, two-answers}
 use Rattle.sheet.proofs.FirstWrong.{right-or-wrong}
 use Rattle.job.specs.Input.{longestInput, mostLines, before, parted, after, readDays, Job, days, wrongLine, readDecisions}
 use Rattle.job.specs.Output.{noneText, sheetLine, rangeLine, wrongText, jobLine, keptLine, leastLine, keptLines, verdictText}
@@ -34,28 +33,16 @@ use Rattle.job.proofs.Reading.{blankTable, blank-long, long-input, shor
 abbrev firstByte : List ℕ → ℕ
 firstByte l = getD l 0 0
 
-two-answers : (f : Fault) → (faultAnswer f ≡ 5) ⊎ (faultAnswer f ≡ 13)
-two-answers Form = inl refl
-two-answers Range = inr refl
-two-answers Order = inl refl
-two-answers Cut = inl refl
-
-same-number : (m n : ℕ) → decimal m ++ feed ∷ [] ≡ decimal n ++ feed ∷ [] → m ≡ n
-same-number m n e = sym (number m) ∙ (ap (λ (l : List ℕ). value 0 (digits l)) e ∙ number n)
-  where
-    number : (k : ℕ) → value 0 (digits (decimal k ++ feed ∷ [])) ≡ k
-    number k = rw (digits-of (decimal k) (feed ∷ []) (decimal-all k) refl, value-decimal k)
-
 lines-apart : (a b m n : ℕ) → (a ≡ 5) ⊎ (a ≡ 13) → (b ≡ 5) ⊎ (b ≡ 13) → wrongText a m ≡ wrongText b n → (a ≡ b) × (m ≡ n)
-unfolding wrongText sheetLine rangeLine
+unfolding wrongText sheetLine rangeLine fieldEnd
 lines-apart a b m n (inl x) (inl y) e =
-    let u : wrongText 5 m ≡ wrongText 5 n = rw (x, y) at e in (x ∙ sym y, same-number m n (ap (λ (l : List ℕ). drop 6 l) u))
+    let u : wrongText 5 m ≡ wrongText 5 n = rw (x, y) at e in (x ∙ sym y, decimal-one (feed ∷ []) m n refl (ap (λ (l : List ℕ). drop 6 l) u))
 lines-apart a b m n (inl x) (inr y) e =
     let u : wrongText 5 m ≡ wrongText 13 n = rw (x, y) at e in let v : _≡_ {A = ℕ} 115 114 = ap firstByte u in absurd (omega arith)
 lines-apart a b m n (inr x) (inl y) e =
     let u : wrongText 13 m ≡ wrongText 5 n = rw (x, y) at e in let v : _≡_ {A = ℕ} 114 115 = ap firstByte u in absurd (omega arith)
 lines-apart a b m n (inr x) (inr y) e =
-    let u : wrongText 13 m ≡ wrongText 13 n = rw (x, y) at e in (x ∙ sym y, same-number m n (ap (λ (l : List ℕ). drop 6 l) u))
+    let u : wrongText 13 m ≡ wrongText 13 n = rw (x, y) at e in (x ∙ sym y, decimal-one (feed ∷ []) m n refl (ap (λ (l : List ℕ). drop 6 l) u))
 
 wrong-first : (a n : ℕ) → 114 ≤ firstByte (wrongText a n)
 unfolding wrongText sheetLine rangeLine

@@ -1,5 +1,6 @@
 -- What a reading comes to: short tables, a wrong sheet, or a right one. Assumes nothing.
 use mathlib.Core.Path.{_≡_, refl}
+use mathlib.Core.Logic.{_⊎_, inl, inr, ⊎-elim}
 use mathlib.Core.Bool.{true, false}
 use mathlib.Core.List.{List}
 use Prim.Native.Nat.{ℕ}
@@ -38,9 +39,12 @@ module _ (s t c : List ℕ) where
       go (sheet z ls) e = rw (reads-right z ls h e, e) (refl, refl)
       go (wrongAt n f) e = rw (reads-wrong n f h e, e) (refl, refl)
 
--- a fault is never answered with 0
+-- a fault is answered with 5 or 13, so never with 0
+pub two-answers : (f : Fault) → (faultAnswer f ≡ 5) ⊎ (faultAnswer f ≡ 13)
+two-answers Form = inl refl
+two-answers Range = inr refl
+two-answers Order = inl refl
+two-answers Cut = inl refl
+
 pub fault-answers : (f : Fault) → faultAnswer f ≡ 0 → ⊥
-fault-answers Form e = omega arith
-fault-answers Range e = omega arith
-fault-answers Order e = omega arith
-fault-answers Cut e = omega arith
+fault-answers f e = ⊎-elim (λ a. omega arith) (λ a. omega arith) (two-answers f)

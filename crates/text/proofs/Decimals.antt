@@ -221,6 +221,13 @@ end-no-digit (b ∷ r) e =
     (λ q. let h : b ≡ 9 = eqb-true b 9 q in rw (lt-leb nought b (omega arith)))
     (λ q. let h : b ≡ 10 = eqb-true b 10 q in rw (lt-leb nought b (omega arith)))
 
+-- a number is told by its digits, whatever follows them
+pub decimal-one : (r : List ℕ) (m n : ℕ) → fieldEnd r ≡ true → decimal m ++ r ≡ decimal n ++ r → m ≡ n
+decimal-one r m n e d = sym (told m) ∙ (ap (λ (l : List ℕ). value 0 (digits l)) d ∙ told n)
+  where
+    told : (k : ℕ) → value 0 (digits (decimal k ++ r)) ≡ k
+    told k = rw (digits-of (decimal k) r (decimal-all k) (end-no-digit r e), value-decimal k)
+
 -- a number, written, reads as itself if it is in range
 read-written : (lo hi n : ℕ) (r : List ℕ) → fieldEnd r ≡ true → readNumber lo hi (decimal n ++ r) ≡ cond (leb lo n && leb n hi) (number n r) outside
 unfolding readNumber
