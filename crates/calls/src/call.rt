@@ -6,7 +6,7 @@ use kinds::State;
 use rules::Size;
 
 // The five numbers that stand beside the slices.
-#[derive(Drop)]
+#[derive(Clone, Copy)]
 pub(crate) struct Numbers {
     pub(crate) places: usize,
     pub(crate) size: Size,

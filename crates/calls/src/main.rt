@@ -1,5 +1,7 @@
 // Carries out a script of calls: docs/CALLS.md says what its lines are and what is printed. What it prints is compared with the second
 // program's lines; nothing is promised of it but that it ends and keeps to its memory.
+#![tactic(auto)]
+
 ghost use Rattle.std.specs.Prelude.{◌≡◌, ◌<◌, ◌≤◌, length};
 
 mod call;

@@ -53,7 +53,7 @@ pub(crate) const BACK: usize = 22;
 pub(crate) const UNKNOWN: usize = BACK + 1;
 
 // A field's number, and where the field ends.
-#[derive(Drop)]
+#[derive(Clone, Copy)]
 pub(crate) struct Number {
     pub(crate) value: u64,
     pub(crate) end: usize,
@@ -90,7 +90,7 @@ pub(crate) fn number_at(line: &[u8], at: usize) -> Number {
 }
 
 // The numbers of two fields: how many or where, and what.
-#[derive(Drop)]
+#[derive(Clone, Copy)]
 pub(crate) struct Pair {
     pub(crate) first: usize,
     pub(crate) second: u64,

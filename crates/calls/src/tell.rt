@@ -11,7 +11,7 @@ const MODULUS: u64 = 140737488355213;
 const SHORT: usize = 16;
 
 // A checksum of entries, and whether all of them are zeros.
-#[derive(Drop)]
+#[derive(Clone, Copy)]
 struct Sum {
     sum: u64,
     zeros: bool,

@@ -1,4 +1,6 @@
 // The checker: whether a roster, whoever made it, is allowed and has the claimed number of changes.
+#![tactic(auto)]
+
 ghost use Rattle.std.specs.Prelude.{◌≡◌};
 ghost use Rattle.rules.specs.Checks.{handed};
 ghost use Rattle.rules.specs.Answers.{number_of};
@@ -10,7 +12,7 @@ mod follow;
 use rules::{Answer, Size};
 
 // What a checker answers.
-#[derive(Drop)]
+#[derive(Clone, Copy)]
 pub struct Checked {
     pub answer: Answer,
     pub says: bool,

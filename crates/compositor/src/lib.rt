@@ -1,4 +1,6 @@
 // The reader of patterns: a pattern on one line becomes a sheet.
+#![tactic(auto)]
+
 ghost use Rattle.std.specs.Prelude.{◌≡◌, ◌≤◌, replicate};
 ghost use Rattle.meaning.specs.Bounds.{most_values};
 ghost use Rattle.rules.specs.Answers.{number_of};
@@ -26,7 +28,7 @@ const MOST_BYTES: usize = 256;
 const MOST_DEPTH: usize = 8;
 
 // What reading a pattern answers: under 0 the size and the accepting mask.
-#[derive(Drop)]
+#[derive(Clone, Copy)]
 pub struct Composed {
     pub answer: Answer,
     pub size: Size,

@@ -9,7 +9,7 @@ pub(crate) const MOST_LETTERS: usize = 32;
 
 // What is kept of a pattern: the place after it in the text, the number of the next letter place, whether it matches the empty word,
 // and the letter places that can read a first and a last letter.
-#[derive(Drop)]
+#[derive(Clone, Copy)]
 pub(crate) struct Part {
     pub at: usize,
     pub place: usize,

@@ -6,7 +6,7 @@ ghost use Rattle.compositor.specs.Inner.{Suffixed, Told};
 use crate::parts::{Part, extended, letter_part, or_part, repeated, then_part};
 
 // A part that was read, or a text that is no pattern.
-#[derive(Drop)]
+#[derive(Clone, Copy)]
 pub(crate) enum Read {
     At(Part),
     Bad,

@@ -1,4 +1,6 @@
 // The work of the program that makes a sheet of a pattern: input bytes to output bytes.
+#![tactic(auto)]
+
 ghost use Rattle.std.specs.Prelude.{◌≡◌, true, ◌≤◌, length, take, replicate};
 ghost use Rattle.meaning.specs.Bounds.{table_size};
 ghost use Rattle.text.specs.Writing.{Wrote};

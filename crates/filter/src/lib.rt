@@ -1,4 +1,6 @@
 // The filter and the first roster.
+#![tactic(auto)]
+
 ghost use Rattle.std.specs.Prelude.{◌≡◌};
 ghost use Rattle.rules.specs.Checks.{handed};
 ghost use Rattle.rules.specs.Answers.{number_of};
@@ -12,7 +14,7 @@ use rules::numbers::clear;
 use rules::{Answer, Size};
 
 // What a filter answers.
-#[derive(Drop)]
+#[derive(Clone, Copy)]
 pub struct Filtered {
     pub answer: Answer,
     pub least: u32,

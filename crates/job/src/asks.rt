@@ -15,14 +15,14 @@ use text::numbers::{Number, field_at, number_at};
 pub(crate) const MOST_DAYS: u32 = 128;
 
 // A line of a word and a number.
-#[derive(Drop)]
+#[derive(Clone, Copy)]
 pub(crate) enum Count {
     Right(u32),
     Wrong(Fault),
 }
 
 // A later line: a decision.
-#[derive(Drop)]
+#[derive(Clone, Copy)]
 pub(crate) enum Asked {
     Keep(usize, Mask),
     Limit(usize, u32),

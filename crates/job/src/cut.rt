@@ -4,7 +4,7 @@ ghost use Rattle.job.specs.Inner.{CutAt};
 use text::bytes::{Sort, sort_of};
 
 // Where the sheet ends and the job begins, if there is an empty line between them.
-#[derive(Drop)]
+#[derive(Clone, Copy)]
 pub(crate) struct Cut {
     pub(crate) found: bool,
     pub(crate) sheet: usize,

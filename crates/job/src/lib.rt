@@ -1,4 +1,6 @@
 // The programs' work: input bytes to output bytes.
+#![tactic(auto)]
+
 ghost use Rattle.std.specs.Prelude.{true};
 ghost use Rattle.sheet.specs.Reading.{read_of};
 ghost use Rattle.text.specs.Writing.{Wrote};

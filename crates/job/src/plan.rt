@@ -19,7 +19,7 @@ use rules::bounds::TOP;
 use text::lines::line_end;
 
 // What is done with a job: each task is a program.
-#[derive(Drop)]
+#[derive(Clone, Copy)]
 pub(crate) enum Task {
     Filter,
     Mend,

@@ -18,7 +18,7 @@ pub(crate) const MOST_LINES: usize = 512;
 pub(crate) const LINES_END: usize = MOST_LINES + 2;
 
 // What comes of the lines behind the days line: all are taken, or one is wrong.
-#[derive(Drop)]
+#[derive(Clone, Copy)]
 pub(crate) enum Taken {
     All,
     Wrong(usize),

@@ -12,14 +12,14 @@ use text::lines::{End, Fault, close_at, fault_of, line_end};
 use text::numbers::{Number, field_at, number_at};
 
 // Where the lines before the drawn one end, and the number of the line there: the decisions stand behind the days line.
-#[derive(Drop)]
+#[derive(Clone, Copy)]
 pub(crate) struct Drawn {
     pub(crate) at: usize,
     pub(crate) number: usize,
 }
 
 // What comes of the last two lines: the most changes, or the number of the wrong line.
-#[derive(Drop)]
+#[derive(Clone, Copy)]
 pub(crate) enum Wish {
     Right(u32),
     Wrong(usize),

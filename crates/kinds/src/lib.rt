@@ -1,16 +1,18 @@
 // The kinds of number: a state's number, a value's number, and a mask of values.
+#![tactic(auto)]
+
 ghost use Rattle.std.specs.Prelude.{◌≡◌, ◌&&◌, ◌||◌, ◌^◌, min, eqb, ltb};
 ghost use Rattle.kinds.specs.Bits.{width, bit, mask_of, smallest_of, rest_of};
 
 // A state and a value are two kinds, so that one can't index where the other is meant.
-#[derive(Drop)]
+#[derive(Clone, Copy)]
 pub struct State(pub u8);
 
-#[derive(Drop)]
+#[derive(Clone, Copy)]
 pub struct Value(pub u8);
 
 // A place's choices: value v is bit v.
-#[derive(Drop)]
+#[derive(Clone, Copy)]
 pub struct Mask(pub u16);
 
 impl Mask {

@@ -1,4 +1,6 @@
 // The memory of a session: the image of an abstract session, tested before a call, and shown anew after it.
+#![tactic(auto)]
+
 ghost use Rattle.std.specs.Prelude.{◌≡◌};
 ghost use Rattle.rules.specs.Checks.{handed};
 ghost use Rattle.rules.specs.Answers.{number_of};

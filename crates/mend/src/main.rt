@@ -1,4 +1,6 @@
 // The program that mends: standard input to standard output.
+#![tactic(auto)]
+
 ghost use Rattle.std.specs.Prelude.{◌≤◌, length};
 ghost use Rattle.job.specs.Input.{longest_output};
 

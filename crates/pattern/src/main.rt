@@ -1,4 +1,6 @@
 // The program that makes a sheet of a pattern: standard input to standard output.
+#![tactic(auto)]
+
 ghost use Rattle.std.specs.Prelude.{◌≤◌, length};
 ghost use Rattle.scribe.specs.Writing.{longest_sheet};
 

@@ -1,4 +1,6 @@
 // The planner: mends a drawn roster with as few changes as can be.
+#![tactic(auto)]
+
 ghost use Rattle.std.specs.Prelude.{◌≡◌};
 ghost use Rattle.rules.specs.Checks.{handed};
 ghost use Rattle.rules.specs.Answers.{number_of};
@@ -12,7 +14,7 @@ use rooms::rows::wipe;
 use rules::{Answer, Size};
 
 // What a planner answers.
-#[derive(Drop)]
+#[derive(Clone, Copy)]
 pub struct Mended {
     pub answer: Answer,
     pub changes: u32,

@@ -1,4 +1,6 @@
 // The two passes together: the masks that are kept, the least cost, and the first roster.
+#![tactic(auto)]
+
 mod alone;
 mod forward;
 mod past;

@@ -1,4 +1,6 @@
 // The C boundary: numbers as themselves, a slice as a pointer and a length; the answer's number is returned, carried numbers are written.
+#![tactic(auto)]
+
 ghost use Rattle.std.specs.Prelude.{◌≡◌, cond};
 ghost use Rattle.meaning.specs.Meaning.{rules_of, Keep, Limit};
 ghost use Rattle.rules.specs.Report.{outcome, report_of};

@@ -49,11 +49,11 @@ not_so true h = absurd (h refl)
 not_so false h = refl
 
 -- what a test in code, `if !test(..)`, tells of the test that its contract names
-pub test_failed : {r b : Bool} → r ≡ b → not r ≡ true → b ≡ false
-test_failed e h = sym e ∙ not-true _ h
+pub test_failed : {r b : Bool} → r ≡ b → r ≡ false → b ≡ false
+test_failed e h = sym e ∙ h
 
-pub test_passed : {r b : Bool} → r ≡ b → not r ≡ false → b ≡ true
-test_passed e h = sym e ∙ not-false _ h
+pub test_passed : {r b : Bool} → r ≡ b → r ≡ true → b ≡ true
+test_passed e h = sym e ∙ h
 
 -- a check that is not passed refuses; one that is passed leaves the rest to decide
 module _ {A : Type 0} (refuse : ℕ → A) (done : A) where

@@ -1,4 +1,6 @@
 // Rule sets as they are lent: the answers, the checks that every call shares, and the prefix report.
+#![tactic(auto)]
+
 ghost use Rattle.std.specs.Prelude.{◌≡◌, true, [], ◌^◌, ◌≤◌, ◌<◌, length};
 ghost use Rattle.meaning.specs.Bounds.{most_places, most_states, most_values, table_size};
 ghost use Rattle.meaning.specs.Meaning.{rules_of};
@@ -17,7 +19,7 @@ pub mod steps;
 use kinds::{Mask, State};
 
 // The answers of the calls, with the paper's numbers.
-#[derive(Drop)]
+#[derive(Clone, Copy)]
 pub enum Answer {
     Done,
     WrongSize,
@@ -63,7 +65,7 @@ impl Answer {
 }
 
 // What a sheet's size line says: the numbers of states and of values, and the start.
-#[derive(Drop)]
+#[derive(Clone, Copy)]
 pub struct Size {
     pub states: usize,
     pub values: usize,
@@ -71,7 +73,7 @@ pub struct Size {
 }
 
 // What a prefix report answers.
-#[derive(Drop)]
+#[derive(Clone, Copy)]
 pub struct Reported {
     pub answer: Answer,
     pub report: usize,

@@ -1,4 +1,6 @@
 // The writer of sheets.
+#![tactic(auto)]
+
 ghost use Rattle.std.specs.Prelude.{◌≡◌};
 ghost use Rattle.meaning.specs.Meaning.{rules_of};
 ghost use Rattle.rules.specs.Answers.{number_of};
@@ -14,7 +16,7 @@ use rules::{Answer, Size};
 pub const LONGEST_SHEET: usize = 18212;
 
 // What writing answers: under 0 the length of the text.
-#[derive(Drop)]
+#[derive(Clone, Copy)]
 pub struct Written {
     pub answer: Answer,
     pub length: usize,

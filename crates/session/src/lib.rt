@@ -1,4 +1,6 @@
 // Sessions: open, keep, limit, mark and back. Each call is lent the sizes, the rule tables, the memory and the work table anew.
+#![tactic(auto)]
+
 ghost use Rattle.std.specs.Prelude.{◌≡◌};
 ghost use Rattle.meaning.specs.Meaning.{Keep, Limit};
 ghost use Rattle.rules.specs.Checks.{handed};

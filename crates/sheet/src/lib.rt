@@ -1,4 +1,6 @@
 // The reader of sheets.
+#![tactic(auto)]
+
 ghost use Rattle.std.specs.Prelude.{◌≡◌};
 ghost use Rattle.rules.specs.Answers.{number_of};
 ghost use Rattle.sheet.specs.Reading.{fault_answer, read_left, read_of};
@@ -13,7 +15,7 @@ use rules::{Answer, Size};
 use text::lines::Fault;
 
 // What reading answers: under 0 the size and the accepting mask, under 5 and 13 the first wrong line.
-#[derive(Drop)]
+#[derive(Clone, Copy)]
 pub struct Read {
     pub answer: Answer,
     pub line: usize,

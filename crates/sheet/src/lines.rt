@@ -11,14 +11,14 @@ use text::lines::{End, Fault, close_at, fault_of};
 use text::numbers::{Number, field_at, number_at};
 
 // Line 1.
-#[derive(Drop)]
+#[derive(Clone, Copy)]
 pub(crate) enum Top {
     Right(Size),
     Wrong(Fault),
 }
 
 // A line after the first.
-#[derive(Drop)]
+#[derive(Clone, Copy)]
 pub(crate) enum Row {
     Final(State),
     Arc(State, Value, State, u16),

@@ -11,7 +11,7 @@ use rules::{Size, bounds};
 use text::lines::{Fault, line_end};
 
 // A sheet: its size and accepting mask, or its first wrong line and why.
-#[derive(Drop)]
+#[derive(Clone, Copy)]
 pub(crate) enum Taken {
     Right(Size, u64),
     Wrong(usize, Fault),

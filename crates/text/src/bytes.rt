@@ -3,7 +3,7 @@ ghost use Rattle.std.specs.Prelude.{◌≡◌, ◌+◌, length};
 ghost use Rattle.text.specs.Bytes.{sort_of};
 ghost use Rattle.text.specs.Lines.{strip_word, strip_view};
 
-#[derive(Drop)]
+#[derive(Clone, Copy)]
 pub enum Sort {
     Digit,
     Tab,

@@ -6,7 +6,7 @@ use crate::bytes::{Sort, sort_of};
 use crate::numbers::Number;
 
 // Why a line is wrong: its form, a number out of range, its place in the order, or its line feed is missing.
-#[derive(Drop)]
+#[derive(Clone, Copy)]
 pub enum Fault {
     Form,
     Range,
@@ -15,7 +15,7 @@ pub enum Fault {
 }
 
 // What stands after the last field of a line.
-#[derive(Drop)]
+#[derive(Clone, Copy)]
 pub enum End {
     Fine,
     Faulty(Fault),

@@ -6,14 +6,14 @@ ghost use Rattle.text.specs.Inner.{RunAt, Ended};
 use crate::bytes::{Sort, sort_of};
 
 // A run of digits.
-#[derive(Drop)]
+#[derive(Clone, Copy)]
 pub(crate) struct Run {
     pub(crate) end: usize,
     pub(crate) value: u64,
 }
 
 // A field read as a number: its value and where it ends.
-#[derive(Drop)]
+#[derive(Clone, Copy)]
 pub enum Number {
     Value(u32, usize),
     Malformed,
