@@ -64,7 +64,7 @@ drawing_start line v n drawn h k e =
 
 module _ (x : Judged (List ℕ)) (line : List ℕ) (v n : ℕ) (drawn : List ℕ) (at i : ℕ) (g : Drawing x line v n drawn at i) (r : Number) where
   module _ (f : NumberAt (read_field 0 (v - 1) (drop at line)) line r) (more : i < n - 1) where
-    pub field_fails : OneOf (1 ∷ 2 ∷ []) (tag_of the_type r) → wrong (number_fault r) ≡ x
+    pub field_fails : ((v end : ℕ) → r ≡ Value v end → ⊥) → wrong (number_fault r) ≡ x
     field_fails o = sym (g.reads ∙ ap (with_values (take i drawn)) (values_many v (n - i) (drop at line) (omega arith) ∙ number_wrong line _ r f _ o))
 
     pub field_goes : (u end : ℕ) → r ≡ Value u end → Drawing x line v n (set drawn i u) end (i + 1)
@@ -82,7 +82,7 @@ module _ (x : Judged (List ℕ)) (line : List ℕ) (v n : ℕ) (drawn : List ℕ
         }
 
   module _ (f : NumberAt (read_number 0 (v - 1) (drop at line)) line r) (last : n - 1 ≤ i) where
-    pub number_fails : OneOf (1 ∷ 2 ∷ []) (tag_of the_type r) → wrong (number_fault r) ≡ x
+    pub number_fails : ((v end : ℕ) → r ≡ Value v end → ⊥) → wrong (number_fault r) ≡ x
     number_fails o = sym (g.reads ∙ ap (with_values (take i drawn)) (values_one v (n - i) (drop at line) (omega (arith, g.inside)) ∙ number_wrong line _ r f _ o))
 
     pub number_goes : (u end j : ℕ) → r ≡ Value u end → j ≡ n - 1 → (e : End) → e ≡ ending true (drop end line) → sealed (set drawn j u) e ≡ x

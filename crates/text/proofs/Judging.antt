@@ -89,8 +89,8 @@ module _ {A : Type 0} (s : List ℕ) (x : Field) (r : Number) (n : NumberAt x s 
   pub number_right : (v end : ℕ) → r ≡ Value v end → on_field x f ≡ f v (drop end s)
   number_right v end e = rw (value_is s x r n v end e)
 
-pub number_wrong : {A : Type 0} (s : List ℕ) (x : Field) (r : Number) → NumberAt x s r → (f : ℕ → List ℕ → Judged A) → OneOf (1 ∷ 2 ∷ []) (tag_of the_type r) → on_field x f ≡ wrong (number_fault r)
-number_wrong s x (Value v p) n f o = ⊎_elim (λ w. absurd (omega arith)) (λ w. absurd (omega arith)) o
+pub number_wrong : {A : Type 0} (s : List ℕ) (x : Field) (r : Number) → NumberAt x s r → (f : ℕ → List ℕ → Judged A) → ((v end : ℕ) → r ≡ Value v end → ⊥) → on_field x f ≡ wrong (number_fault r)
+number_wrong s x (Value v p) n f o = absurd (o v p refl)
 number_wrong s x Malformed n f o = rw (malformed_is s x Malformed n refl)
 number_wrong s x Outside n f o = rw (outside_is s x Outside n refl)
 

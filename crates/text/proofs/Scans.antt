@@ -120,8 +120,8 @@ not_small_sort b n = go (is_small b) refl
     go false h = h
 
 -- a match on a sort goes by its tag: one of some tags is none of the others
-pub other_tag : (ks : List ℕ) (b : ℕ) (c d : Sort) → c ≡ sort_of b → T (not (has_key ks (tag_of the_type d))) → OneOf ks (tag_of the_type c) → d ≡ sort_of b → ⊥
-other_tag ks b c d e h o f = let k : c ≡ d = e ∙ sym f in miss ks (tag_of the_type d) h (rw k at o)
+pub other_tag : (b : ℕ) (c d : Sort) → c ≡ sort_of b → (c ≡ d → ⊥) → d ≡ sort_of b → ⊥
+other_tag b c d e o f = o (e ∙ sym f)
 
 -- digits and what follows them, at a place
 digits_in : (s : List ℕ) (i : ℕ) → i < length s → 48 ≤ get_or s i 0 → get_or s i 0 ≤ 57 → digits (drop i s) ≡ get_or s i 0 ∷ digits (drop (i + 1) s)
@@ -308,9 +308,9 @@ module _ (s : List ℕ) (x : Field) (r : Number) (n : NumberAt x s r) where
   field_other v end e h b = record { reads = rw (value_is v end e, drop-cons s end 0 h, ne_eqb (get_or s end 0) 9 b); inside = tt }
 
 -- a field that is no number in range stays that
-pub field_not : (s : List ℕ) (x : Field) (r : Number) → NumberAt x s r → OneOf (1 ∷ 2 ∷ []) (tag_of number-type r) → NumberAt (tabbed x) s r
+pub field_not : (s : List ℕ) (x : Field) (r : Number) → NumberAt x s r → ((v end : ℕ) → r ≡ Value v end → ⊥) → NumberAt (tabbed x) s r
 unfolding tabbed
-field_not s x (Value v end) n o = ⊎_elim (λ w. absurd (omega arith)) (λ w. absurd (omega arith)) o
+field_not s x (Value v end) n o = absurd (o v end refl)
 field_not s x Malformed n o = record { reads = rw (malformed_is s x Malformed n refl); inside = tt }
 field_not s x Outside n o = record { reads = rw (outside_is s x Outside n refl); inside = tt }
 

@@ -1,0 +1,24 @@
+use Rattle.std.proofs.Common.{⊎_elim, arith}
+use Rattle.meaning.specs.Bounds.{top}
+use Rattle.ranks.proofs.Looking.{best_one, best_more, best_stops, best_end}
+use Rattle.ranks.proofs.pull.along.Goals as goal
+
+pub loop-k-init : goal.loop-k-init
+loop-k-init c = (omega arith, omega arith, best_one _ _ _ _ (omega (arith, c.type_inv.row 0)) c.given-best.ensures)
+
+pub overflow_add-low : goal.overflow_add-low
+unfolding top
+overflow_add-low c = omega (arith, c.cost_of.ensures, c.type_inv.row c.loop-k.k)
+
+pub loop-k-preserved : goal.loop-k-preserved
+loop-k-preserved c = let l = c.loop-k in
+    (omega arith, omega arith, rw c.lesser-best.ensures (best_more _ _ _ l.k l.best _ (omega arith) (omega (arith, c.type_inv.row l.k)) c.given.ensures l.invariant.2))
+
+pub returns : goal.returns
+unfolding top
+returns c = let l = c.loop-k in
+    rw c.lesser.ensures
+    (⊎_elim
+    (λ w. best_end _ _ _ l.k l.best l.invariant.1 w.false l.invariant.2)
+    (λ w. best_stops _ _ _ l.k l.best w.0.true (omega (arith, w.2.ensures, w.3.true)) l.invariant.2)
+    c.loop-k-test.branch)
