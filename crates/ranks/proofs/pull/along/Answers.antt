@@ -1,7 +1,8 @@
-use Rattle.std.proofs.Common.{⊎_elim, arith}
+use Rattle.std.proofs.Common.{arith}
 use Rattle.meaning.specs.Bounds.{top}
 use Rattle.ranks.proofs.Looking.{best_one, best_more, best_stops, best_end}
 use Rattle.ranks.proofs.pull.along.Goals as goal
+use Rattle.ranks.proofs.pull.along.Goals.{else-loop-k-test, then-loop-k-test+then-best-low}
 
 pub loop-k-init : goal.loop-k-init
 loop-k-init c = (omega arith, omega arith, best_one _ _ _ _ (omega (arith, c.type_inv.row 0)) c.given-best.ensures)
@@ -18,7 +19,6 @@ pub returns : goal.returns
 unfolding top
 returns c = let l = c.loop-k in
     rw c.lesser.ensures
-    (⊎_elim
-    (λ w. best_end _ _ _ l.k l.best l.invariant.1 w.false l.invariant.2)
-    (λ w. best_stops _ _ _ l.k l.best w.0.true (omega (arith, w.2.ensures, w.3.true)) l.invariant.2)
-    c.loop-k-test.branch)
+    (elim c.loop-k-test.branch [
+      else-loop-k-test w ↦ best_end _ _ _ l.k l.best l.invariant.1 w.loop-k-test.false l.invariant.2
+    | then-loop-k-test+then-best-low w ↦ best_stops _ _ _ l.k l.best w.loop-k-test.true (omega (arith, w.cost_of.ensures, w.if-best-low.true)) l.invariant.2 ])

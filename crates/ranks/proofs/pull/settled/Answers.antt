@@ -12,10 +12,10 @@ pub loop-q-init : goal.loop-q-init
 loop-q-init c = (omega arith, settled_none _ _ _)
 
 pub returns-then-wrapping_add_u32-row : goal.returns-then-wrapping_add_u32-row
-returns-then-wrapping_add_u32-row c = settled_fails _ _ c.loop-q-test.true c.wrapping_add_u32.ensures c.if-wrapping_add_u32-row.true
+returns-then-wrapping_add_u32-row c = settled_fails _ _ c.loop-q-test.true c.wrapping_add_u32.ensures.value c.if-wrapping_add_u32-row.true
 
 pub loop-q-preserved : goal.loop-q-preserved
-loop-q-preserved c = (omega arith, settled_more _ c.wrapping_add_u32.ensures c.if-wrapping_add_u32-row.false c.loop-q.invariant.1)
+loop-q-preserved c = (omega arith, settled_more _ c.wrapping_add_u32.ensures.value c.if-wrapping_add_u32-row.false c.loop-q.invariant.1)
 
 pub returns : goal.returns
 returns c = settled_end c.loop-q.invariant.0 c.loop-q-test.false c.loop-q.invariant.1
