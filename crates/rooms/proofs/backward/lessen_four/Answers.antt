@@ -1,0 +1,26 @@
+use mathlib.Core.Path.{refl, ◌∙◌}
+use lib.ListN.{length-set}
+use native.Mathlib.Omega.{arith}
+use Rattle.rooms.proofs.Filling.{filled_none, filled_more, filled_end}
+use Rattle.rooms.proofs.Raising.{least_two}
+use native.Mathlib.Nat.{min_comm}
+use Rattle.rooms.proofs.backward.lessen_four.Goals as goal
+
+pub loop-q-init : goal.loop-q-init
+loop-q-init c = (omega arith, refl, filled_none _ _)
+
+pub least_of-two-requires : goal.least_of-two-requires
+least_of-two-requires c = let p = c.requires in (p.1, p.2, p.7, p.8, omega arith, p.3, p.4)
+
+pub least_of-others-requires : goal.least_of-others-requires
+least_of-others-requires c = let p = c.requires in (p.1, p.2, p.7, p.8, omega arith, p.5, p.6)
+
+pub loop-q-preserved : goal.loop-q-preserved
+loop-q-preserved c = let l = c.loop-q.invariant in
+    (omega arith, simp length-set l.1, filled_more _ (omega arith) l.2 (c.beside.ensures ∙ rw (c.lesser.ensures, min_comm c.least_of-two.result c.least_of-others.result, c.least_of-two.ensures, c.least_of-others.ensures, l.2.left c.loop-q.q.0 (omega arith), least_two, least_two, least_two)))
+
+pub shape_of-row : goal.shape_of-row
+shape_of-row c = c.loop-q.invariant.1
+
+pub returns : goal.returns
+returns c = let l = c.loop-q.invariant in filled_end l.2 l.0 c.loop-q-test.false

@@ -1,0 +1,5 @@
+use native.Mathlib.Omega.{arith}
+use Rattle.rooms.proofs.backward.rise_from.Goals as goal
+
+pub returns : goal.returns
+returns c = omega (arith, c.less.ensures, c.requires.2.low c.roomy-q.result.0 (omega (arith, c.roomy-q.ensures)))

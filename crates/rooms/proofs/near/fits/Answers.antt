@@ -1,0 +1,23 @@
+use native.Mathlib.Omega.{arith}
+use Rattle.rooms.proofs.Sizing.{plan_not, plan_fits}
+use mathlib.Core.Path.{sym}
+use lib.Seq.{length-take-le}
+use Rattle.rooms.proofs.near.fits.Goals as goal
+
+pub returns-then-masks-gt-MOST_PLACES : goal.returns-then-masks-gt-MOST_PLACES
+returns-then-masks-gt-MOST_PLACES c = plan_not (λ s. omega (arith, s.plain.few_places))
+
+pub returns-then-drawn-masks : goal.returns-then-drawn-masks
+returns-then-drawn-masks c = plan_not (λ s. c.if-drawn-masks.true s.all_drawn)
+
+pub returns-then-most-ge-ROWS : goal.returns-then-most-ge-ROWS
+returns-then-most-ge-ROWS c = plan_not (λ s. omega (arith, s.few_changes))
+
+pub returns-then-work-plain : goal.returns-then-work-plain
+returns-then-work-plain c = plan_not (λ s. c.if-work-plain.true s.all_rows)
+
+pub slice_bounds-fits-end : goal.slice_bounds-fits-end
+slice_bounds-fits-end c = sym (length-take-le _ _ (omega (arith, c.if-work-plain.false)))
+
+pub returns : goal.returns
+returns c = plan_fits c.if-drawn-masks.false (omega (arith, c.if-most-ge-ROWS.false)) c.if-work-plain.false c.fits.ensures
