@@ -1,5 +1,5 @@
 -- The tables that lines have filled: their lines are those lines again, and they pass the checks of a rule set. Assumes nothing.
-use mathlib.Core.Path.{◌≡◌, refl, ap, sym, ◌∙◌}
+use mathlib.Core.Path.{◌≡◌, refl, ap, sym, subst, ◌∙◌}
 use mathlib.Core.Logic.{inl, inr}
 use mathlib.Core.Bool.{Bool, true, false, ◌||◌}
 use mathlib.Core.List.{List, [], ◌∷◌, ◌++◌}
@@ -119,8 +119,11 @@ module _ (z : Size) (g : Sized z) where
           let ci : get_or (puts z.values the_cost ls (set ys i c)) i 0 ≡ c = puts_below z the_cost i ls (set ys i c) rr ∙ get_or-set_same ys i c 0 (omega arith) in
           let dv : i / z.values ≡ q = ap (λ (k : ℕ). k / z.values) (sym p) ∙ digits_div q r.0.1 in
           let md : i % z.values ≡ v = ap (λ (k : ℕ). k % z.values) (sym p) ∙ digits_mod q r.0.1 in
-          rw (p, ti, ci, lt-ltb t z.states r.0.2, dv, md)
-          (ap (λ (l : List Line). arc q v t c ∷ l) (here rr (omega arith) (omega arith) (λ j a b. get_or-set_other xs i j t 0 (omega arith) ∙ m j (omega arith) (omega arith))))
+          let tp : get_or (puts z.values the_target ls (set xs (q * z.values + v) t)) i 0 ≡ t = rw p ti in
+          let cp : get_or (puts z.values the_cost ls (set ys (q * z.values + v) c)) i 0 ≡ c = rw p ci in
+          let back : arcs_back ls (set xs i t) (set ys i c) (suc i) n ≡ ls = here rr (omega arith) (omega arith) (λ j a b. get_or-set_other xs i j t 0 (omega arith) ∙ m j (omega arith) (omega arith)) in
+          let bp : arcs_back ls (set xs (q * z.values + v) t) (set ys (q * z.values + v) c) (suc i) n ≡ ls = subst (λ (k : ℕ). arcs_back ls (set xs k t) (set ys k c) (suc i) n ≡ ls) (sym p) back in
+          rw (tp, cp, lt-ltb t z.states r.0.2, dv, md) (ap (λ (l : List Line). arc q v t c ∷ l) bp)
 
   module _ (xs ys : List ℕ) (hx : z.states * z.values ≤ length xs) (hy : z.states * z.values ≤ length ys)
       (none : (j : ℕ) → j < z.states * z.values → get_or xs j 0 ≡ no_target) (m : ℕ) where
@@ -176,8 +179,8 @@ lines_back_lem z ls xs ys g r hx hy =
 -- WHAT LINES MAKE PASSES THE CHECKS OF A RULE SET
 named_below : (z : Size) (n u : ℕ) (ls : List Line) → Rising z n ls → z.states ≤ u → any (names u) ls ≡ false
 named_below z n u [] r h = refl
-named_below z n u (final p ∷ ls) r h = let l : p < z.states = r.0 in rw (ne_eqb u p (omega arith)) (named_below z _ u ls r.2 h)
-named_below z n u (arc p v t c ∷ ls) r h = named_below z _ u ls r.2 h
+named_below z n u (final p ∷ ls) r h = let l : p < z.states = r.0 in rw (ne_eqb u p (omega arith)) (named_below z (suc (place z (final p))) u ls r.2 h)
+named_below z n u (arc p v t c ∷ ls) r h = named_below z (suc (place z (arc p v t c))) u ls r.2 h
 
 accepting_lt : (z : Size) (ls : List Line) → z.states ≤ most_states → Rising z 0 ls → accepting_of ls < 2 ^ z.states
 unfolding accepting_of
@@ -197,12 +200,12 @@ entries : (z : Size) (n k : ℕ) (ls : List Line) (xs ys : List ℕ) → Rising 
     → ArcIn z.states (get_or xs k 0) (get_or ys k 0) → ArcIn z.states (get_or (puts z.values the_target ls xs) k 0) (get_or (puts z.values the_cost ls ys) k 0)
 unfolding puts
 entries z n k [] xs ys r hx hy old = old
-entries z n k (final q ∷ ls) xs ys r hx hy old = entries z _ k ls xs ys r.2 hx hy old
+entries z n k (final q ∷ ls) xs ys r hx hy old = entries z (suc (place z (final q))) k ls xs ys r.2 hx hy old
 entries z n k (arc q v t c ∷ ls) xs ys r hx hy old =
     let w : q * z.values + v < z.states * z.values = digits_lt r.0.0 r.0.1 in
     let lx : length (set xs (q * z.values + v) t) ≡ length xs = length-set xs (q * z.values + v) t in
     let ly : length (set ys (q * z.values + v) c) ≡ length ys = length-set ys (q * z.values + v) c in
-    entries z _ k ls (set xs (q * z.values + v) t) (set ys (q * z.values + v) c) r.2 (omega arith) (omega arith)
+    entries z (suc (place z (arc q v t c))) k ls (set xs (q * z.values + v) t) (set ys (q * z.values + v) c) r.2 (omega arith) (omega arith)
     (entry_set z.states k xs ys (q * z.values + v) t c (omega arith) (omega arith) r.0.2 r.0.3 old)
 
 pub rules_back : (z : Size) (ls : List Line) (xs ys : List ℕ) → Sized z → Rising z 0 ls → z.states * z.values ≤ length xs → z.states * z.values ≤ length ys

@@ -50,7 +50,7 @@ rest_seen : (s : List ℕ) {before : List (List ℕ)} {z : Size} {next : ℕ} �
 unfolding read_rest
 rest_seen s r [] e = tt
 rest_seen s {before = before} {z = z} {next = next} r (l ∷ rest) e =
-    go (read_line z next l) refl (λ a w. rest_seen s (lined r l a w) rest (e ∙ sym (append_assoc before (l ∷ []) rest)))
+    go (read_line z next l) refl (λ a w. rest_seen s {before = before ++ l ∷ []} {z = z} {next = suc (place z a)} (lined r l a w) rest (e ∙ sym (append_assoc before (l ∷ []) rest)))
   where
     j : read_line z next l ≡ judged (line_tests z next l) (line_in l)
     j = line_by_fields z next l (line_is s before l rest e)

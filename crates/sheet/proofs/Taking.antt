@@ -1,13 +1,10 @@
 -- Laws of the lines of a sheet as they are taken one by one into the mask and the tables. Assumes nothing.
 use mathlib.Core.Path.{◌≡◌, refl, ap, ap₂, sym, ◌∙◌, subst}
-use mathlib.Core.Logic.{⊎_elim}
 use mathlib.Core.Bool.{Bool, false, ◌||◌, or-false}
 use mathlib.Core.List.{List, [], ◌∷◌, ◌++◌, append-nil}
 use Prim.Native.Nat.{ℕ, suc, ◌+◌, ◌-◌, ◌*◌, ◌%◌, ◌^◌, ◌≤◌, ◌<◌}
 use native.Mathlib.Numerals.{add-one}
 use native.Mathlib.Omega.{arith}
-use types.Run.{OneOf}
-use denote.Enum.Declared.{tag_of}
 use lib.Bits.{bit_or}
 use lib.Dec.{eqb}
 use lib.ListN.{length, take, drop, set, drop_of_length-le}
@@ -33,7 +30,6 @@ use Rattle.sheet.specs.declared.lines.Row.{Row}
 use Rattle.sheet.specs.declared.lines.Row.TheVariants.{Final, Arc, Wrong}
 use Rattle.sheet.specs.declared.take.Taken.{Taken}
 use Rattle.sheet.specs.declared.take.Taken.TheVariants as taken
-use Rattle.sheet.specs.contracts.lines.Row.{the_type}
 use Rattle.sheet.proofs.Texts.{Lined, line_read, size_read}
 use Rattle.meaning.proofs.Lists.{any_append}
 
@@ -93,11 +89,11 @@ pub record IsLine (z : Size) (r : Row) : Type 0 where
   pub one : row_lines r ≡ line ∷ []
   pub next : row_next z r ≡ suc (place z line)
 
-pub is_line : (z : Size) (r : Row) → OneOf (0 ∷ 1 ∷ []) (tag_of the_type r) → IsLine z r
+pub is_line : (z : Size) (r : Row) → ((f : Fault) → r ≡ Wrong f → ⊥) → IsLine z r
 unfolding place
 is_line z (Final q) o = record { line = final q.0; view = refl; one = refl; next = add-one q.0 }
 is_line z (Arc q v t c) o = record { line = arc q.0 v.0 t.0 c; view = refl; one = refl; next = add-one (z.states + (q.0 * z.values + v.0)) }
-is_line z (Wrong f) o = ⊎_elim (λ w. absurd (omega arith)) (λ w. absurd (omega arith)) o
+is_line z (Wrong f) o = absurd (o f refl)
 
 -- what taking a sheet leaves
 took_right : (x : Sheet) (t₀ c₀ : List ℕ) (z : Size) (ls : List Line) (m : ℕ) (t c : List ℕ) → x ≡ sheet z ls → m ≡ accepting_of ls

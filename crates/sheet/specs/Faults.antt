@@ -1,5 +1,5 @@
 -- THE FAULT OF A WRONG SHEET: that of its first wrong line, told by the line's fields from left to right.
-use Rattle.std.specs.Prelude.{◌≡◌, true, false, cond, List, [], ◌∷◌, ◌++◌, ℕ, suc, ◌-◌, leb, length}
+use Rattle.std.specs.Prelude.{◌≡◌, true, cond, List, [], ◌∷◌, ◌++◌, ℕ, suc, ◌-◌, leb, length}
 use Rattle.meaning.specs.Bounds.{most_states, most_values, most_cost}
 use Rattle.rules.specs.declared.Size.{Size}
 use Rattle.text.specs.Numbers.{value}

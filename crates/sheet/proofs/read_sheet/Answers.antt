@@ -25,13 +25,13 @@ pub overflow_mul-size : goal.overflow_mul-size
 overflow_mul-size c = omega (arith, right_few c.args.text.now _ _ (took_is_right _ _ _ c.take_sheet-judged.result _ _ _ _ c.take_sheet-judged.ensures c.in-Right.is))
 
 pub clear-requires : goal.clear-requires
-clear-requires c = omega (arith, right_few c.args.text.now _ _ (took_is_right _ _ _ c.take_sheet-judged.result _ _ _ _ c.take_sheet-judged.ensures c.in-Right.is), long_tables c.args.targets.now c.args.costs.now (test_passed c.tables_long.ensures c.if-not-tables_long.false), ap length (no_room c.take_sheet-judged.new.1.0 c.args.targets.now c.take_sheet-judged.auto.targets), ap length (no_room c.take_sheet-judged.new.1.1.0 c.args.costs.now c.take_sheet-judged.auto.costs))
+clear-requires c = omega (arith, right_few c.args.text.now _ _ (took_is_right _ _ _ c.take_sheet-judged.result _ _ _ _ c.take_sheet-judged.ensures c.in-Right.is), long_tables c.args.targets.now c.args.costs.now (test_passed c.tables_long.ensures c.if-not-tables_long.false), ap length (no_room c.take_sheet-judged.new.targets c.args.targets.now c.take_sheet-judged.auto.targets), ap length (no_room c.take_sheet-judged.new.costs c.args.costs.now c.take_sheet-judged.auto.costs))
 
 pub take_sheet-requires : goal.take_sheet-requires
-take_sheet-requires c = omega (arith, c.clear.auto.targets, c.clear.auto.costs, long_tables c.args.targets.now c.args.costs.now (test_passed c.tables_long.ensures c.if-not-tables_long.false), ap length (no_room c.take_sheet-judged.new.1.0 c.args.targets.now c.take_sheet-judged.auto.targets), ap length (no_room c.take_sheet-judged.new.1.1.0 c.args.costs.now c.take_sheet-judged.auto.costs))
+take_sheet-requires c = omega (arith, c.clear.auto.targets, c.clear.auto.costs, long_tables c.args.targets.now c.args.costs.now (test_passed c.tables_long.ensures c.if-not-tables_long.false), ap length (no_room c.take_sheet-judged.new.targets c.args.targets.now c.take_sheet-judged.auto.targets), ap length (no_room c.take_sheet-judged.new.costs c.args.costs.now c.take_sheet-judged.auto.costs))
 
 pub returns-in-Wrong : goal.returns-in-Wrong
-returns-in-Wrong c = left_wrong _ _ _ _ _ _ _ _ _ c.answer_for.ensures c.refused-in-Wrong.ensures (test_passed c.tables_long.ensures c.if-not-tables_long.false) (took_is_wrong _ _ _ c.take_sheet-judged.result _ _ _ _ c.take_sheet-judged.ensures c.in-Wrong.is) (no_room c.take_sheet-judged.new.1.0 c.args.targets.now c.take_sheet-judged.auto.targets) (no_room c.take_sheet-judged.new.1.1.0 c.args.costs.now c.take_sheet-judged.auto.costs)
+returns-in-Wrong c = left_wrong _ _ _ _ _ _ _ _ _ c.answer_for.ensures c.refused-in-Wrong.ensures (test_passed c.tables_long.ensures c.if-not-tables_long.false) (took_is_wrong _ _ _ c.take_sheet-judged.result _ _ _ _ c.take_sheet-judged.ensures c.in-Wrong.is) (no_room c.take_sheet-judged.new.targets c.args.targets.now c.take_sheet-judged.auto.targets) (no_room c.take_sheet-judged.new.costs c.args.costs.now c.take_sheet-judged.auto.costs)
 
 pub returns-in-Right : goal.returns-in-Right
-returns-in-Right c = left_filled _ _ _ _ _ c.take_sheet.result _ _ _ _ _ _ (test_passed c.tables_long.ensures c.if-not-tables_long.false) (took_is_right _ _ _ c.take_sheet-judged.result _ _ _ _ c.take_sheet-judged.ensures c.in-Right.is) (no_room c.take_sheet-judged.new.1.0 c.args.targets.now c.take_sheet-judged.auto.targets) (no_room c.take_sheet-judged.new.1.1.0 c.args.costs.now c.take_sheet-judged.auto.costs) c.clear.ensures c.take_sheet.ensures
+returns-in-Right c = left_filled _ _ _ _ _ c.take_sheet.result _ _ _ _ _ _ (test_passed c.tables_long.ensures c.if-not-tables_long.false) (took_is_right _ _ _ c.take_sheet-judged.result _ _ _ _ c.take_sheet-judged.ensures c.in-Right.is) (no_room c.take_sheet-judged.new.targets c.args.targets.now c.take_sheet-judged.auto.targets) (no_room c.take_sheet-judged.new.costs c.args.costs.now c.take_sheet-judged.auto.costs) c.clear.ensures c.take_sheet.ensures

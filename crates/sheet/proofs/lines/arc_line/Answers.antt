@@ -8,25 +8,25 @@ use Rattle.sheet.proofs.lines.arc_line.Goals as goal
 
 pub returns-in_default : goal.returns-in_default
 unfolding read_arc
-returns-in_default c =     ap wrong c.fault_of.ensures
+returns-in_default c = ap wrong c.fault_of.ensures
     ∙ sym (number_wrong _ _ _ c.field_at-a.ensures _ c.in_default.not-Value)
 
 pub returns-in_default-b : goal.returns-in_default-b
 unfolding read_arc
-returns-in_default-b c =     ap wrong c.fault_of-in_default-b.ensures
+returns-in_default-b c = ap wrong c.fault_of-in_default-b.ensures
     ∙ sym (number_right _ _ _ c.field_at-a.ensures _ _ _ c.in-Value.is
     ∙ number_wrong _ _ _ c.field_at-b.ensures _ c.in_default-b.not-Value)
 
 pub returns-in_default-c : goal.returns-in_default-c
 unfolding read_arc
-returns-in_default-c c =     ap wrong c.fault_of-in_default-c.ensures
+returns-in_default-c c = ap wrong c.fault_of-in_default-c.ensures
     ∙ sym (number_right _ _ _ c.field_at-a.ensures _ _ _ c.in-Value.is
     ∙ number_right _ _ _ c.field_at-b.ensures _ _ _ c.in-Value-b.is
     ∙ number_wrong _ _ _ c.field_at-c.ensures _ c.in_default-c.not-Value)
 
 pub returns-in_default-n : goal.returns-in_default-n
 unfolding read_arc
-returns-in_default-n c =     ap wrong c.fault_of-in_default-n.ensures
+returns-in_default-n c = ap wrong c.fault_of-in_default-n.ensures
     ∙ sym (number_right _ _ _ c.field_at-a.ensures _ _ _ c.in-Value.is
     ∙ number_right _ _ _ c.field_at-b.ensures _ _ _ c.in-Value-b.is
     ∙ number_right _ _ _ c.field_at-c.ensures _ _ _ c.in-Value-c.is
@@ -46,7 +46,7 @@ overflow_cast-result-in-Fine c = omega (arith, number_range _ _ _ _ _ c.number_a
 
 pub returns-in-Fine : goal.returns-in-Fine
 unfolding read_arc place
-returns-in-Fine c =     sym (number_right _ _ _ c.field_at-a.ensures _ _ _ c.in-Value.is
+returns-in-Fine c = sym (number_right _ _ _ c.field_at-a.ensures _ _ _ c.in-Value.is
     ∙ number_right _ _ _ c.field_at-b.ensures _ _ _ c.in-Value-b.is
     ∙ number_right _ _ _ c.field_at-c.ensures _ _ _ c.in-Value-c.is
     ∙ number_right _ _ _ c.number_at-n.ensures _ _ _ c.in-Value-n.is
@@ -54,7 +54,7 @@ returns-in-Fine c =     sym (number_right _ _ _ c.field_at-a.ensures _ _ _ c.in-
 
 pub returns-in-Faulty : goal.returns-in-Faulty
 unfolding read_arc place
-returns-in-Faulty c =     sym (number_right _ _ _ c.field_at-a.ensures _ _ _ c.in-Value.is
+returns-in-Faulty c = sym (number_right _ _ _ c.field_at-a.ensures _ _ _ c.in-Value.is
     ∙ number_right _ _ _ c.field_at-b.ensures _ _ _ c.in-Value-b.is
     ∙ number_right _ _ _ c.field_at-c.ensures _ _ _ c.in-Value-c.is
     ∙ number_right _ _ _ c.number_at-n.ensures _ _ _ c.in-Value-n.is

@@ -14,10 +14,10 @@ overflow_cast-q c = omega (arith, number_range _ _ _ _ _ c.number_at-n.ensures _
 
 pub returns-in-Fine : goal.returns-in-Fine
 unfolding read_final place
-returns-in-Fine c =     sym (number_right _ _ _ c.number_at-n.ensures _ _ _ c.in-Value.is
+returns-in-Fine c = sym (number_right _ _ _ c.number_at-n.ensures _ _ _ c.in-Value.is
     ∙ sealed_is _ _ _ _ c.close_at-e.ensures c.in-Fine.is)
 
 pub returns-in-Faulty : goal.returns-in-Faulty
 unfolding read_final place
-returns-in-Faulty c =     sym (number_right _ _ _ c.number_at-n.ensures _ _ _ c.in-Value.is
+returns-in-Faulty c = sym (number_right _ _ _ c.number_at-n.ensures _ _ _ c.in-Value.is
     ∙ sealed_is _ _ _ _ c.close_at-e.ensures c.in-Faulty.is)

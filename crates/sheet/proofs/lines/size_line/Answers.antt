@@ -12,13 +12,13 @@ returns-then-not-begins c = sym (strip_wrong _ _ _ _ (begins_false _ _ c.begins.
 
 pub returns-in_default : goal.returns-in_default
 unfolding read_size
-returns-in_default c =     ap wrong c.fault_of.ensures
+returns-in_default c = ap wrong c.fault_of.ensures
     ∙ sym (strip_right _ _ _ _ _ (begins_true _ _ c.begins.result c.begins.ensures refl (test_passed refl c.if-not-begins.false))
     ∙ number_wrong _ _ _ c.field_at-a.ensures _ c.in_default.not-Value)
 
 pub returns-in_default-b : goal.returns-in_default-b
 unfolding read_size
-returns-in_default-b c =     ap wrong c.fault_of-in_default-b.ensures
+returns-in_default-b c = ap wrong c.fault_of-in_default-b.ensures
     ∙ sym (strip_right _ _ _ _ _ (begins_true _ _ c.begins.result c.begins.ensures refl (test_passed refl c.if-not-begins.false))
     ∙ number_right _ _ _ c.field_at-a.ensures _ _ _ c.in-Value.is
     ∙ number_wrong _ _ _ c.field_at-b.ensures _ c.in_default-b.not-Value)
@@ -28,7 +28,7 @@ overflow_sub-states c = (field_range _ _ _ _ _ c.field_at-a.ensures _ _ c.in-Val
 
 pub returns-in_default-c : goal.returns-in_default-c
 unfolding read_size
-returns-in_default-c c =     ap wrong c.fault_of-in_default-c.ensures
+returns-in_default-c c = ap wrong c.fault_of-in_default-c.ensures
     ∙ sym (strip_right _ _ _ _ _ (begins_true _ _ c.begins.result c.begins.ensures refl (test_passed refl c.if-not-begins.false))
     ∙ number_right _ _ _ c.field_at-a.ensures _ _ _ c.in-Value.is
     ∙ number_right _ _ _ c.field_at-b.ensures _ _ _ c.in-Value-b.is
@@ -39,7 +39,7 @@ overflow_cast-result-in-Fine-2 c = omega (arith, number_range _ _ _ _ _ c.number
 
 pub returns-in-Fine : goal.returns-in-Fine
 unfolding read_size
-returns-in-Fine c =     sym (strip_right _ _ _ _ _ (begins_true _ _ c.begins.result c.begins.ensures refl (test_passed refl c.if-not-begins.false))
+returns-in-Fine c = sym (strip_right _ _ _ _ _ (begins_true _ _ c.begins.result c.begins.ensures refl (test_passed refl c.if-not-begins.false))
     ∙ number_right _ _ _ c.field_at-a.ensures _ _ _ c.in-Value.is
     ∙ number_right _ _ _ c.field_at-b.ensures _ _ _ c.in-Value-b.is
     ∙ number_right _ _ _ c.number_at-c.ensures _ _ _ c.in-Value-c.is
@@ -47,7 +47,7 @@ returns-in-Fine c =     sym (strip_right _ _ _ _ _ (begins_true _ _ c.begins.res
 
 pub returns-in-Faulty : goal.returns-in-Faulty
 unfolding read_size
-returns-in-Faulty c =     sym (strip_right _ _ _ _ _ (begins_true _ _ c.begins.result c.begins.ensures refl (test_passed refl c.if-not-begins.false))
+returns-in-Faulty c = sym (strip_right _ _ _ _ _ (begins_true _ _ c.begins.result c.begins.ensures refl (test_passed refl c.if-not-begins.false))
     ∙ number_right _ _ _ c.field_at-a.ensures _ _ _ c.in-Value.is
     ∙ number_right _ _ _ c.field_at-b.ensures _ _ _ c.in-Value-b.is
     ∙ number_right _ _ _ c.number_at-c.ensures _ _ _ c.in-Value-c.is

@@ -37,7 +37,7 @@ pub loop-at-smaller : goal.loop-at-smaller
 loop-at-smaller c = omega (arith, c.line_end-end.ensures.inside c.loop-at-test.true)
 
 pub loop-at-preserved : goal.loop-at-preserved
-loop-at-preserved c = taking_more _ _ _ _ _ _ _ _ _ _ _ c.loop-at.invariant _ c.row_of-taken.result _ _ _ _ (c.line_end-end.ensures.inside c.loop-at-test.true) c.row_of-taken.ensures (is_line _ c.row_of-taken.result c.in_default.not-Value) c.put_row-accepting.ensures c.after_row-next.ensures c.put_row-accepting.auto.targets c.put_row-accepting.auto.costs
+loop-at-preserved c = taking_more _ _ _ _ _ _ _ _ _ _ _ c.loop-at.invariant _ c.row_of-taken.result _ _ _ _ (c.line_end-end.ensures.inside c.loop-at-test.true) c.row_of-taken.ensures (is_line _ c.row_of-taken.result c.in_default.not-Wrong) c.put_row-accepting.ensures c.after_row-next.ensures c.put_row-accepting.auto.targets c.put_row-accepting.auto.costs
 
 pub shape_of-targets : goal.shape_of-targets
 shape_of-targets c = c.loop-at.invariant.same_targets

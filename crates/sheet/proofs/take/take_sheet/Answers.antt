@@ -11,7 +11,7 @@ pub slice_bounds-size_line-end : goal.slice_bounds-size_line-end
 slice_bounds-size_line-end c = let l = c.line_end-end.ensures.inside (omega arith) in sym (length-take-le _ _ l.high)
 
 pub take_lines-requires : goal.take_lines-requires
-take_lines-requires c =     let l = c.line_end-end.ensures.inside (omega arith) in
+take_lines-requires c = let l = c.line_end-end.ensures.inside (omega arith) in
     (l.high, top_sized _ _ l _ c.size_line-top.ensures _ c.in-Right.is, c.requires)
 
 pub returns-in-Right : goal.returns-in-Right

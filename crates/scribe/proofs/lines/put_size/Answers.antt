@@ -1,0 +1,8 @@
+use native.Mathlib.Omega.{arith}
+use Rattle.sheet.specs.Lines.{size_text}
+use Rattle.scribe.proofs.Puts.{wrote_then, wrote_field}
+use Rattle.scribe.proofs.lines.put_size.Goals as goal
+
+pub returns : goal.returns
+unfolding size_text
+returns c = wrote_then (omega arith) c.put_word-a.ensures (λ h. wrote_field _ _ h c.put_field-b.ensures (λ h. wrote_field _ _ h c.put_field-c.ensures (λ _. c.put_field.ensures)))
