@@ -12,7 +12,7 @@ use Rattle.rules.specs.Answers.{number_of, decided}
 use Rattle.rules.specs.Checks.{tables_long}
 use Rattle.rules.specs.declared.Answer.TheVariants.{WrongSize, WrongLength, ManyStates, WrongPattern}
 use Rattle.patterns.specs.Pattern.{Pattern}
-use Rattle.patterns.specs.Places.{null, first, last, onward, ends}
+use Rattle.patterns.specs.Places.{onward, ends}
 use Rattle.patterns.specs.Line.{lawful, unlawful, read_line}
 use Rattle.numbering.specs.Numbering.{met, targets_of, accepting_of, over}
 use Rattle.patterns.specs.Outcome.{Outcome, pattern_left, states_of, count_right, pattern_of}

@@ -251,7 +251,10 @@ module _ (s : List ℕ) (vs : ℕ) (t c : List ℕ) (count : count_right vs ≡ 
       -- state 1, and so on to the last
       pub pattern_order : (n : ℕ) → most_states ≤ n → let o = pattern_of s vs t c in meets [] (map (leads_to (made_of o).arcs o.start) (words_up_to vs n)) ≡ from 1 o.states
       unfolding states_of over
-      pattern_order n h = rw outcome (states_in_order (onward p) (ends p) vs 0 most_states rest free (omega arith) few n h)
+      pattern_order n h =
+          ap (λ (o : Outcome). meets [] (map (leads_to (made_of o).arcs o.start) (words_up_to vs n))) outcome
+          ∙ states_in_order (onward p) (ends p) vs 0 most_states rest free (omega arith) few n h
+          ∙ ap (λ (o : Outcome). from 1 o.states) (sym outcome)
 
       made_lawful : 1 ≤ vs → Lawful (rules_of (length states) vs (over (targets_of (onward p) vs states) t) free (accepting_of (ends p) states))
       unfolding accepting_of over states_of

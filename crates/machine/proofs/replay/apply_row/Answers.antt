@@ -20,7 +20,7 @@ bounds-masks-place-then-kind-eq-KEEP c = let h = c.requires.keep_there c.if-kind
 
 pub returns-then-kind-eq-KEEP : goal.returns-then-kind-eq-KEEP
 returns-then-kind-eq-KEEP c = let h = c.requires.keep_there c.if-kind-eq-KEEP.true in
-    apply_keep _ _ _ _ _ c.if-kind-eq-KEEP.true (omega (arith, c.type_inv.masks c.args.place)) (c.requires.keep_narrow c.if-kind-eq-KEEP.true) _ c.meet.ensures
+    apply_keep _ _ _ _ _ c.if-kind-eq-KEEP.true (omega (arith, c.slice_known-1.given c.args.place)) (c.requires.keep_narrow c.if-kind-eq-KEEP.true) _ c.meet.ensures
 
 pub offset_bounds-limits-place : goal.offset_bounds-limits-place
 offset_bounds-limits-place c = let h = c.requires.limit_there c.if-kind-eq-LIMIT.true in search rules
