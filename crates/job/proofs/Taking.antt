@@ -68,10 +68,10 @@ some_line s at h = let r = go (eqb (get_or s at 0) feed) (lines (drop (suc at) s
     go false (l ∷ ls) = (_, _, refl)
 
 -- a line that asks for a decision, and one that is wrong
-decision_of : (a : Asked) → OneOf (0 ∷ 1 ∷ []) (tag_of the_type a) → (d : Decision) × (asked_view a ≡ right d) × (asks a ≡ d ∷ [])
+decision_of : (a : Asked) → ((f : Fault) → a ≡ the.Wrong f → ⊥) → (d : Decision) × (asked_view a ≡ right d) × (asks a ≡ d ∷ [])
 decision_of (the.Keep i m) o = (Keep i m.0, refl, refl)
 decision_of (the.Limit i c) o = (Limit i c, refl, refl)
-decision_of (the.Wrong f) o = ⊎_elim (λ w. absurd (omega arith)) (λ w. absurd (omega arith)) o
+decision_of (the.Wrong f) o = absurd (o f refl)
 
 module _ (n v k : ℕ) (l : List ℕ) (ls : List (List ℕ)) where
   more_lines : (room : ℕ) (d : Decision) → 0 < room → read_decision n v l ≡ right d → read_decisions n v k room (l ∷ ls) ≡ with_decision d (read_decisions n v (k + 1) (room - 1) ls)
@@ -128,7 +128,7 @@ module _ (text : List ℕ) (v : ℕ) (ms ls : List ℕ) (j : Job) (ms2 ls2 : Lis
         g.job ∙ ap (with_decisions g.so_far) (ap (read_decisions (length ms) v number (lines_end - number)) l.cuts
         ∙ wrong_line_lem (length ms) v number _ (lines (drop end text)) (lines_end - number) f (omega arith) (sym here ∙ ap asked_view e))
 
-    pub going_more : (ms3 ls3 : List ℕ) → OneOf (0 ∷ 1 ∷ []) (tag_of the_type a) → length ms3 ≡ length ms2 → length ls3 ≡ length ls2
+    pub going_more : (ms3 ls3 : List ℕ) → ((f : Fault) → a ≡ the.Wrong f → ⊥) → length ms3 ≡ length ms2 → length ls3 ≡ length ls2
         → places ms3 ls3 ≡ decides (places ms2 ls2) (asks a) → Going text v ms ls j ms3 ls3 end (number + 1)
     unfolding decides
     going_more ms3 ls3 o p q e =
