@@ -6,7 +6,7 @@ ghost use Rattle.meaning.specs.Meaning.{rules_of, Keep, Limit};
 ghost use Rattle.rules.specs.Report.{outcome, report_of};
 ghost use Rattle.rules.specs.Checks.{handed};
 ghost use Rattle.ledger.specs.Sessions.{opening, deciding, marking, going_back};
-ghost use Rattle.ledger.specs.Readiness.{left as leftIn};
+ghost use Rattle.ledger.specs.Readiness.{left as left_in};
 ghost use Rattle.ledger.specs.Calls.{opened, called};
 ghost use Rattle.filter.specs.Filter.{left, filter_of};
 ghost use Rattle.filter.specs.First.{given, first_of};
@@ -273,7 +273,7 @@ pub extern "C" fn reedgosling_open(
     memory: &mut [u32],
     work: &mut [u32],
 ) -> u32
-    ensures { leftIn result memory.new work.new ≡ opened (handed places states values start targets.now costs.now accepting) (opening masks.now limits.now) memory.old work.old }
+    ensures { left_in result memory.new work.new ≡ opened (handed places states values start targets.now costs.now accepting) (opening masks.now limits.now) memory.old work.old }
 {
     let size = Size {
         states,
@@ -300,7 +300,7 @@ pub extern "C" fn reedgosling_keep(
     place: usize,
     mask: u16,
 ) -> u32
-    ensures { leftIn result memory.new work.new ≡ called (handed places states values start targets.now costs.now accepting) (deciding (Keep place mask)) memory.old work.old }
+    ensures { left_in result memory.new work.new ≡ called (handed places states values start targets.now costs.now accepting) (deciding (Keep place mask)) memory.old work.old }
 {
     let size = Size {
         states,
@@ -327,7 +327,7 @@ pub extern "C" fn reedgosling_limit(
     place: usize,
     cost: u32,
 ) -> u32
-    ensures { leftIn result memory.new work.new ≡ called (handed places states values start targets.now costs.now accepting) (deciding (Limit place cost)) memory.old work.old }
+    ensures { left_in result memory.new work.new ≡ called (handed places states values start targets.now costs.now accepting) (deciding (Limit place cost)) memory.old work.old }
 {
     let size = Size {
         states,
@@ -352,7 +352,7 @@ pub extern "C" fn reedgosling_mark(
     memory: &mut [u32],
     work: &mut [u32],
 ) -> u32
-    ensures { leftIn result memory.new work.new ≡ called (handed places states values start targets.now costs.now accepting) marking memory.old work.old }
+    ensures { left_in result memory.new work.new ≡ called (handed places states values start targets.now costs.now accepting) marking memory.old work.old }
 {
     let size = Size {
         states,
@@ -375,7 +375,7 @@ pub extern "C" fn reedgosling_back(
     memory: &mut [u32],
     work: &mut [u32],
 ) -> u32
-    ensures { leftIn result memory.new work.new ≡ called (handed places states values start targets.now costs.now accepting) going_back memory.old work.old }
+    ensures { left_in result memory.new work.new ≡ called (handed places states values start targets.now costs.now accepting) going_back memory.old work.old }
 {
     let size = Size {
         states,

@@ -1,0 +1,4 @@
+use Rattle.reedgosling.proofs.reedgosling_mend_job.Goals as goal
+
+pub returns : goal.returns
+returns c = c.mend_job.ensures
