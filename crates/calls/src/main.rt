@@ -17,14 +17,14 @@ use crate::call::call_line;
 use crate::cells::{fill, give_8, put, set_length};
 use crate::script::{field_end, number_at, pair_at, slice_at, word_of};
 use crate::tell::{show, tell_word};
-use libc::STDIN_FILENO;
+use std::io::Stdout;
 use text::lines::line_end;
 
 // As long as a script may be.
 const LONGEST: usize = 2097152;
 
 // Carries out a line that names a slice.
-fn slice_line(word: usize, line: &[u8], memory: &mut [u64]) {
+fn slice_line(out: Stdout, word: usize, line: &[u8], memory: &mut [u64]) {
     let word_end = field_end(line, 0);
     let slice = slice_at(line, word_end);
     let first = number_at(line, field_end(line, word_end));
@@ -34,20 +34,20 @@ fn slice_line(word: usize, line: &[u8], memory: &mut [u64]) {
         script::LENGTH => set_length(memory, slice, first.value),
         script::PUT => put(memory, slice, place, line, first.end),
         script::FILL => fill(memory, slice, place, run.first, run.second),
-        _ => show(memory, slice, place, run.first),
+        _ => show(out, memory, slice, place, run.first),
     }
 }
 
 // Carries a line out.
-fn line_out(word: usize, line: &[u8], memory: &mut [u64]) {
+fn line_out(out: Stdout, word: usize, line: &[u8], memory: &mut [u64]) {
     match word {
         script::REMARK => {}
         script::SIZE => put(memory, cells::NUMBERS, 0, line, 4),
         script::LENGTH | script::PUT | script::FILL | script::SHOW => {
-            slice_line(word, line, memory)
+            slice_line(out, word, line, memory)
         }
-        script::UNKNOWN => tell_word(b"unknown\n"),
-        _ => call_line(word, line, memory),
+        script::UNKNOWN => tell_word(out, b"unknown\n"),
+        _ => call_line(out, word, line, memory),
     }
 }
 
@@ -76,7 +76,7 @@ fn take_bytes(line: &[u8], from: usize, memory: &mut [u64]) -> usize
 }
 
 // Carries the first line out, and gives where the next begins.
-fn step(script: &[u8], memory: &mut [u64]) -> usize
+fn step(out: Stdout, script: &[u8], memory: &mut [u64]) -> usize
     requires { 0 < length script.now }
     ensures { (0 < result) × (result ≤ length script.now) }
 {
@@ -85,14 +85,14 @@ fn step(script: &[u8], memory: &mut [u64]) -> usize
     if word == script::BYTES {
         return take_bytes(script, end, memory);
     }
-    line_out(word, &script[..end], memory);
+    line_out(out, word, &script[..end], memory);
     end
 }
 
-fn run(script: &[u8], memory: &mut [u64]) {
+fn run(out: Stdout, script: &[u8], memory: &mut [u64]) {
     let mut at: usize = 0;
     while at < script.len() {
-        at += step(&script[at..], memory);
+        at += step(out, &script[at..], memory);
     }
 }
 
@@ -103,13 +103,15 @@ fn script_room() -> [u8; LONGEST + 1]
     [0; LONGEST + 1]
 }
 
-fn main() {
+fn main(rt: HostRuntime) {
     let mut script = script_room();
     let mut memory = [0u64; cells::CELLS];
-    let got = io::read_full(STDIN_FILENO, &mut script);
+    let mut input = rt.stdin();
+    let out = rt.stdout();
+    let got = streams::read_full(&mut input, &mut script);
     if LONGEST < got {
-        tell_word(b"long\n");
+        tell_word(out, b"long\n");
         return;
     }
-    run(&script[..got], &mut memory);
+    run(out, &script[..got], &mut memory);
 }

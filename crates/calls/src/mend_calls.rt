@@ -4,8 +4,10 @@ use crate::cells::{give_8, give_32, take_8, take_16, take_32};
 use crate::script::{field_end, number_at};
 use crate::tell::{tell_answer, tell_number};
 use crate::{cells, script};
+use std::io::Stdout;
 
 fn mend(
+    out: Stdout,
     most: u32,
     numbers: Numbers,
     targets: &[u8],
@@ -31,11 +33,12 @@ fn mend(
         plan,
     );
     let answer = mended.answer;
-    tell_answer(answer);
-    tell_number(mended.changes as u64);
+    tell_answer(out, answer);
+    tell_number(out, mended.changes as u64);
 }
 
 fn check(
+    out: Stdout,
     claimed: u32,
     numbers: Numbers,
     targets: &[u8],
@@ -59,11 +62,12 @@ fn check(
         claimed,
     );
     let answer = checked.answer;
-    tell_answer(answer);
-    tell_number(if checked.says { 1 } else { 0 });
+    tell_answer(out, answer);
+    tell_number(out, if checked.says { 1 } else { 0 });
 }
 
 fn make(
+    out: Stdout,
     word: usize,
     number: u32,
     numbers: Numbers,
@@ -77,16 +81,17 @@ fn make(
 ) {
     match word {
         script::MEND => mend(
-            number, numbers, targets, costs, masks, limits, drawn, roster, plan,
+            out, number, numbers, targets, costs, masks, limits, drawn, roster, plan,
         ),
         _ => check(
-            number, numbers, targets, costs, masks, limits, drawn, roster,
+            out, number, numbers, targets, costs, masks, limits, drawn, roster,
         ),
     }
 }
 
 // Makes a call with the slices as the memory holds them, and puts back what it may have written.
 pub(crate) fn carry_out(
+    out: Stdout,
     word: usize,
     line: &[u8],
     memory: &mut [u64],
@@ -106,6 +111,7 @@ pub(crate) fn carry_out(
     let asked = number_at(line, field_end(line, 0));
     let number = (asked.value % 4294967296) as u32;
     make(
+        out,
         word,
         number,
         numbers_of(memory),

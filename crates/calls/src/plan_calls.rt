@@ -5,8 +5,10 @@ use crate::script::pair_at;
 use crate::tell::{tell_answer, tell_number};
 use crate::{cells, script};
 use kinds::Value;
+use std::io::Stdout;
 
 fn filter(
+    out: Stdout,
     numbers: Numbers,
     targets: &[u8],
     costs: &[u16],
@@ -28,11 +30,12 @@ fn filter(
         work,
     );
     let answer = verdict.answer;
-    tell_answer(answer);
-    tell_number(verdict.least as u64);
+    tell_answer(out, answer);
+    tell_number(out, verdict.least as u64);
 }
 
 fn first(
+    out: Stdout,
     line: &[u8],
     numbers: Numbers,
     targets: &[u8],
@@ -44,22 +47,25 @@ fn first(
 ) {
     let size = numbers.size;
     let asked = pair_at(line, 5);
-    tell_answer(filter::first_roster(
-        numbers.places,
-        size,
-        targets,
-        costs,
-        numbers.accepting,
-        masks,
-        limits,
-        asked.first,
-        Value((asked.second % 256) as u8),
-        roster,
-        work,
-    ));
+    tell_answer(
+        out,
+        filter::first_roster(
+            numbers.places,
+            size,
+            targets,
+            costs,
+            numbers.accepting,
+            masks,
+            limits,
+            asked.first,
+            Value((asked.second % 256) as u8),
+            roster,
+            work,
+        ),
+    );
 }
 
-fn report(numbers: Numbers, targets: &[u8], costs: &[u16], roster: &[u8]) {
+fn report(out: Stdout, numbers: Numbers, targets: &[u8], costs: &[u16], roster: &[u8]) {
     let size = numbers.size;
     let reported = rules::prefix_report(
         numbers.places,
@@ -70,11 +76,12 @@ fn report(numbers: Numbers, targets: &[u8], costs: &[u16], roster: &[u8]) {
         roster,
     );
     let answer = reported.answer;
-    tell_answer(answer);
-    tell_number(reported.report as u64);
+    tell_answer(out, answer);
+    tell_number(out, reported.report as u64);
 }
 
 fn make(
+    out: Stdout,
     word: usize,
     line: &[u8],
     numbers: Numbers,
@@ -87,14 +94,17 @@ fn make(
     work: &mut [u32],
 ) {
     match word {
-        script::FILTER => filter(numbers, targets, costs, masks, limits, kept, work),
-        script::FIRST => first(line, numbers, targets, costs, masks, limits, roster, work),
-        _ => report(numbers, targets, costs, roster),
+        script::FILTER => filter(out, numbers, targets, costs, masks, limits, kept, work),
+        script::FIRST => first(
+            out, line, numbers, targets, costs, masks, limits, roster, work,
+        ),
+        _ => report(out, numbers, targets, costs, roster),
     }
 }
 
 // Makes a call with the slices as the memory holds them, and puts back what it may have written.
 pub(crate) fn carry_out(
+    out: Stdout,
     word: usize,
     line: &[u8],
     memory: &mut [u64],
@@ -113,7 +123,7 @@ pub(crate) fn carry_out(
     let work = take_32(memory, cells::WORK, &mut work_room);
     let numbers = numbers_of(memory);
     make(
-        word, line, numbers, targets, costs, masks, limits, kept, roster, work,
+        out, word, line, numbers, targets, costs, masks, limits, kept, roster, work,
     );
     give_16(memory, cells::KEPT, kept);
     give_8(memory, cells::ROSTER, roster);

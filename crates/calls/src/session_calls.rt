@@ -5,6 +5,7 @@ use crate::script::pair_at;
 use crate::tell::tell_answer;
 use crate::{cells, script};
 use rules::Answer;
+use std::io::Stdout;
 
 fn keep(
     line: &[u8],
@@ -81,6 +82,7 @@ fn make(
 
 // Makes a call with the slices as the memory holds them, and puts back what it may have written.
 pub(crate) fn carry_out(
+    out: Stdout,
     word: usize,
     line: &[u8],
     memory: &mut [u64],
@@ -99,7 +101,7 @@ pub(crate) fn carry_out(
     let answer = make(
         word, line, numbers, targets, costs, masks, limits, session, work,
     );
-    tell_answer(answer);
+    tell_answer(out, answer);
     give_32(memory, cells::SESSION, session);
     give_32(memory, cells::WORK, work);
 }

@@ -1,8 +1,8 @@
 // What is printed: numbers after tabs, and each slice that a call has changed.
 use crate::cells::{entry, length_of};
 use crate::script::field_end;
-use libc::STDOUT_FILENO;
 use rules::Answer;
+use std::io::Stdout;
 
 // The modulus of the checksum: the largest prime below 2^47, so that no two entries count alike and no sum wraps.
 const MODULUS: u64 = 140737488355213;
@@ -17,21 +17,21 @@ struct Sum {
     zeros: bool,
 }
 
-pub(crate) fn tell_word(word: &[u8]) {
-    io::write_all(STDOUT_FILENO, word);
+pub(crate) fn tell_word(mut out: Stdout, word: &[u8]) {
+    streams::write_all(&mut out, word);
 }
 
-pub(crate) fn tell_number(number: u64) {
-    tell_word(b"\t");
-    io::print_decimal(STDOUT_FILENO, number);
+pub(crate) fn tell_number(mut out: Stdout, number: u64) {
+    tell_word(out, b"\t");
+    streams::write_decimal(&mut out, number);
 }
 
-pub(crate) fn tell_answer(answer: Answer) {
-    tell_number(answer.number() as u64);
+pub(crate) fn tell_answer(out: Stdout, answer: Answer) {
+    tell_number(out, answer.number() as u64);
 }
 
 // A field of a line, with the tab before it.
-pub(crate) fn tell_field(line: &[u8], number: usize) {
+pub(crate) fn tell_field(out: Stdout, line: &[u8], number: usize) {
     let mut at: usize = 0;
     let mut k: usize = 0;
     while k < number {
@@ -39,12 +39,13 @@ pub(crate) fn tell_field(line: &[u8], number: usize) {
         k += 1;
     }
     let end = field_end(line, at);
-    tell_word(&line[at..end]);
+    tell_word(out, &line[at..end]);
 }
 
 // The name of a slice, after a tab.
-fn tell_name(slice: usize) {
+fn tell_name(out: Stdout, slice: usize) {
     tell_field(
+        out,
         b"\ttargets\tcosts\tmasks\tlimits\tkept\troster\twork\tsession\tinput\toutput\tdrawn\tplan",
         slice,
     );
@@ -82,7 +83,7 @@ pub(crate) fn sum_all(memory: &[u64], sums: &mut [u64]) {
 }
 
 // So many entries from a place on, as they are and as far as the slice goes.
-fn tell_entries(memory: &[u64], slice: usize, place: usize, count: usize) {
+fn tell_entries(out: Stdout, memory: &[u64], slice: usize, place: usize, count: usize) {
     let length = length_of(memory, slice);
     let mut at = place;
     let mut left = count;
@@ -90,43 +91,43 @@ fn tell_entries(memory: &[u64], slice: usize, place: usize, count: usize) {
         if left == 0 {
             return;
         }
-        tell_number(entry(memory, slice, at));
+        tell_number(out, entry(memory, slice, at));
         at += 1;
         left -= 1;
     }
 }
 
 // A slice's name and content, if it has changed.
-fn tell_change(memory: &[u64], slice: usize, before: u64) {
+fn tell_change(out: Stdout, memory: &[u64], slice: usize, before: u64) {
     let summed = sum_of(memory, slice);
     if summed.sum == before {
         return;
     }
-    tell_name(slice);
+    tell_name(out, slice);
     let length = length_of(memory, slice);
     if length <= SHORT {
-        tell_entries(memory, slice, 0, length);
+        tell_entries(out, memory, slice, 0, length);
     } else if summed.zeros {
-        tell_word(b"\tzeros");
+        tell_word(out, b"\tzeros");
     } else {
-        tell_word(b"\tsum");
-        tell_number(summed.sum);
+        tell_word(out, b"\tsum");
+        tell_number(out, summed.sum);
     }
 }
 
 // The end of a call's line: each slice whose checksum is another than before.
-pub(crate) fn tell_changes(memory: &[u64], before: &[u64]) {
+pub(crate) fn tell_changes(out: Stdout, memory: &[u64], before: &[u64]) {
     let mut slice: usize = 0;
     while slice < before.len() {
-        tell_change(memory, slice, before[slice]);
+        tell_change(out, memory, slice, before[slice]);
         slice += 1;
     }
-    tell_word(b"\n");
+    tell_word(out, b"\n");
 }
 
 // A line with a run of a slice's entries, as far as the slice goes.
-pub(crate) fn show(memory: &[u64], slice: usize, place: usize, count: usize) {
-    tell_word(b"show");
-    tell_entries(memory, slice, place, count);
-    tell_word(b"\n");
+pub(crate) fn show(out: Stdout, memory: &[u64], slice: usize, place: usize, count: usize) {
+    tell_word(out, b"show");
+    tell_entries(out, memory, slice, place, count);
+    tell_word(out, b"\n");
 }

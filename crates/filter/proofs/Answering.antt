@@ -9,7 +9,7 @@ use lib.ListN.{length}
 use borrow.Author.Tests.{eqb-true, ltb-true}
 use Rattle.meaning.specs.Meaning.{Rules, rules_of, Verdict, verdict_of, Place, places, rosters, first}
 use Rattle.meaning.specs.Bounds.{work_size, top}
-use Rattle.rules.specs.Checks.{handed, sizes_right, tables_long, tables_right, rules_right, masks_right}
+use Rattle.rules.specs.Checks.{handed, sizes_right, tables_long, rules_right, masks_right}
 use Rattle.rules.specs.Answers.{Check, check, zeros, work_after}
 use Rattle.rules.proofs.Checks.{both, size_of_lem, sizes_of, long_tables, refuses, passes, is_done}
 use Rattle.rules.proofs.Refusals.{wrong_size, wrong_tables_long, wrong_lengths, wrong_tables, wrong_mask, all_right}

@@ -5,8 +5,6 @@ use mathlib.Core.List.{List, [], ◌∷◌, ◌++◌, append_assoc}
 use Prim.Native.Nat.{ℕ, zero, suc, ◌+◌, ◌-◌, ◌≤◌, ◌<◌}
 use native.Mathlib.Numerals.{add-one}
 use native.Mathlib.Omega.{arith}
-use types.Run.{OneOf}
-use denote.Enum.Declared.{tag_of}
 use lib.ListN.{length, take, drop, set, length-set, drop_of_length-le}
 use lib.Seq.{take-suc-set, set_split}
 use Rattle.meaning.proofs.Members.{Below}
@@ -17,7 +15,6 @@ use Rattle.text.specs.declared.lines.End.{End}
 use Rattle.text.specs.declared.lines.End.TheVariants.{Fine, Faulty}
 use Rattle.text.specs.declared.numbers.Number.{Number}
 use Rattle.text.specs.declared.numbers.Number.TheVariants.{Value}
-use Rattle.text.specs.contracts.numbers.Number.{the_type}
 use Rattle.text.proofs.Decimals.{number_read, field_read}
 use Rattle.text.proofs.Judging.{on_field_right, close_right, on_strip_right, strip_right, number_right, number_wrong}
 use Rattle.job.specs.Mend.{drawn_word, read_values, read_drawn}

@@ -13,7 +13,7 @@ use Rattle.meaning.specs.Bounds.{top}
 use Rattle.rules.specs.Checks.{size_right, sizes_right, rules_right, masks_right}
 use Rattle.rules.proofs.Checks.{both, Size, size_of_lem, sizes_last}
 use Rattle.text.specs.Numbers.{read_number}
-use Rattle.text.specs.Lines.{right, wrong, strip, lines, LineAt}
+use Rattle.text.specs.Lines.{right, strip, lines, LineAt}
 use Rattle.text.proofs.Decimals.{number_read}
 use Rattle.text.proofs.Judging.{on_strip_right, on_field_right, close_right}
 use Rattle.text.specs.declared.lines.Fault.{Fault}

@@ -1,12 +1,9 @@
 -- The lines of a job, taken one by one. Assumes nothing.
 use mathlib.Core.Path.{◌≡◌, refl, ap, sym, ◌∙◌, subst}
-use mathlib.Core.Logic.{⊎_elim}
 use mathlib.Core.Bool.{Bool, true, false, ◌&&◌}
 use mathlib.Core.List.{List, [], ◌∷◌, ◌++◌, append-nil, append_assoc}
 use Prim.Native.Nat.{ℕ, zero, suc, ◌+◌, ◌-◌, ◌^◌, ◌≤◌, ◌<◌, min}
 use native.Mathlib.Omega.{arith}
-use types.Run.{OneOf}
-use denote.Enum.Declared.{tag_of}
 use lib.Dec.{eqb}
 use lib.ListN.{length, get_or, take, drop, set, drop_of_length-le}
 use lib.Seq.{drop-cons}
@@ -23,7 +20,6 @@ use Rattle.job.specs.Inner.{asked_view, asks, AskedIn, Took}
 use Rattle.job.specs.declared.asks.Asked.{Asked}
 use Rattle.job.specs.declared.asks.Asked.TheVariants as the
 use Rattle.job.specs.declared.take.Taken.TheVariants as the-taken
-use Rattle.job.specs.contracts.asks.Asked.{the_type}
 
 -- one decision is one store
 pub asked_in : (a b : Asked) (n l : ℕ) → a ≡ b → AskedIn a n l → AskedIn b n l

@@ -1,24 +1,23 @@
 -- The filter of what is held, one law for each step of the code. Assumes nothing.
-use mathlib.Core.Path.{◌≡◌, refl, sym, ap, ap₂, ◌∙◌}
-use mathlib.Core.Bool.{Bool, true, ◌&&◌}
-use mathlib.Core.List.{List, [], ◌∷◌, ◌++◌}
-use Prim.Native.Nat.{ℕ, zero, suc, ◌+◌, ◌^◌, ◌≤◌}
+use mathlib.Core.Path.{◌≡◌, sym, ap, ap₂, ◌∙◌}
+use mathlib.Core.Bool.{Bool, true}
+use mathlib.Core.List.{List, ◌++◌}
+use Prim.Native.Nat.{ℕ, ◌+◌, ◌^◌, ◌≤◌}
 use native.Mathlib.Omega.{arith}
 use lib.ListN.{length, get_or, drop, take, replicate, length-drop, length-take, length-replicate}
 use lib.Seq.{length-take-le}
 use lib.Pow.{pow_mono}
-use borrow.Author.Tests.{eq-eqb, lt-ltb, ltb-true}
 use Rattle.meaning.specs.Meaning.{Place, places, Verdict, verdict, verdict_of}
 use Rattle.meaning.specs.Lists.{all}
 use Rattle.meaning.specs.Bounds.{most_places}
 use Rattle.rules.specs.Checks.{Handed, masks_right}
-use Rattle.rules.specs.Answers.{decided, zeros}
+use Rattle.rules.specs.Answers.{zeros}
 use Rattle.rules.proofs.Choices.{choice_right, choices_right, decides_right}
 use Rattle.ledger.specs.Sessions.{standing, places_by, verdict_by}
 use Rattle.ledger.specs.Readiness.{left, renewed_by, Lent}
 use Rattle.ledger.specs.Layout.{opening_place, shown_size}
 use Rattle.ledger.specs.Memory.{rows_of, entries_of, opening_at, opening_of, held_in, same, shown_of, verdict_held, Held}
-use Rattle.ledger.proofs.Numbers.{and_both, below_more, masks_below}
+use Rattle.ledger.proofs.Numbers.{below_more, masks_below}
 use Rattle.ledger.proofs.Image.{held_few, held_room, held_masks, room_long, room_rows}
 use Rattle.machine.specs.Inner.{Compared, Replayable}
 use Rattle.machine.proofs.Ranges.{rows_safe}

@@ -1,7 +1,7 @@
 -- What the definition of a mended roster says. Assumes nothing.
 use mathlib.Core.Path.{◌≡◌, refl, sym, ap, ◌∙◌, subst}
 use mathlib.Core.Bool.{Bool, true, false, cond, ◌&&◌, and-eq-true_iff}
-use mathlib.Core.Logic.{◌⊎◌, inl, inr, ⊎_elim, ◌↔◌}
+use mathlib.Core.Logic.{inl, inr, ⊎_elim, ◌↔◌}
 use mathlib.Core.List.Memᴰ
 use mathlib.Core.List.{List, [], ◌∷◌, map, nil≢cons, head-eq_of_cons-eq}
 use mathlib.Core.List.Memᴰ.{cases_cons as cases}
@@ -18,7 +18,7 @@ use Rattle.meaning.specs.Lists.{those}
 use Rattle.meaning.proofs.Lists.{those_in, in_those, those_same, both_ways}
 use Rattle.meaning.proofs.Members.{roster_in, least_in, least_le}
 use Rattle.meaning.proofs.Order.{Sooner, Rising, rising_those, rising}
-use Rattle.mending.specs.Mending.{differs, changes, fewest, mended}
+use Rattle.mending.specs.Mending.{changes, fewest, mended}
 
 -- no two words come before each other
 not_sooner : (w z : List ℕ) → Sooner w z → Sooner z w → ⊥

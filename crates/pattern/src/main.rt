@@ -4,18 +4,21 @@
 ghost use Rattle.std.specs.Prelude.{◌≤◌, length};
 ghost use Rattle.scribe.specs.Writing.{longest_sheet};
 
+use std::io::Stdout;
+
 // Prints what comes of an input, by way of a buffer that has room for all of it.
-fn print(input: &[u8], output: &mut [u8])
+fn print(mut out: Stdout, input: &[u8], output: &mut [u8])
     requires { longest_sheet ≤ length output.old }
 {
     let length = drafter::pattern_job(input, output);
-    io::write_all(1, &output[..length]);
+    streams::write_all(&mut out, &output[..length]);
 }
 
 // One byte past the ceiling is enough to know that an input is too long.
-fn main() {
+fn main(rt: HostRuntime) {
     let mut space = [0u8; drafter::LONGEST_INPUT + 1];
-    let got = io::read_full(0, &mut space);
+    let mut input = rt.stdin();
+    let got = streams::read_full(&mut input, &mut space);
     let mut output = [0u8; scribe::LONGEST_SHEET];
-    print(&space[..got], &mut output);
+    print(rt.stdout(), &space[..got], &mut output);
 }

@@ -3,8 +3,7 @@
 use Rattle.std.proofs.Common.{◌≡◌, ℕ, suc, ◌+◌, ◌<◌, ◌≤◌, Bool, true, false, List, [], length, get_or, sym, refl, ◌∙◌, arith, ext_get_or}
 use native.Mathlib.Decide.{dec_lt}
 use Rattle.meaning.specs.Bounds.{most_states, most_values, table_size, top}
-use Rattle.meaning.specs.Meaning.{arcs_of}
-use Rattle.ranks.specs.Rows.{no_arc, cost_in, out, along, Rising, Ranked, Pulls, Settled, Served, Ranks, Turns}
+use Rattle.ranks.specs.Rows.{no_arc, cost_in, along, Rising, Ranked, Pulls, Settled, Served, Ranks, Turns}
 use Rattle.ranks.proofs.Least.{along_low, along_one, top_low}
 
 pub pull_unique : (n : ℕ) (numbers arcs row a b : List ℕ) (x y : ℕ) → n ≤ most_states → most_states ≤ length numbers → length arcs ≡ table_size → n ≤ length row

@@ -10,7 +10,7 @@ use lib.Dec.{leb, ltb, eqb}
 use lib.Arith.{digits_lt}
 use lib.ListN.{length, get_or, drop, drop_of_length-le}
 use lib.Seq.{drop-cons}
-use borrow.Author.Tests.{not-true, not-false, leb-true, ltb-true, eqb-true, le-leb, lt-ltb, le-ltb, eq-eqb, ne_eqb}
+use borrow.Author.Tests.{leb-true, ltb-true, eqb-true, le-leb, lt-ltb, le-ltb, eq-eqb, ne_eqb}
 use Rattle.meaning.specs.Lists.{all}
 use Rattle.meaning.specs.Bounds.{most_places, most_states, most_values, most_cost, no_target, table_size}
 use Rattle.rules.specs.Checks.{size_right, sizes_right, tables_long, arc_right, tables_from, tables_right, rules_right}

@@ -1,10 +1,9 @@
 -- The checks 1 to 4 of a call that is lent a rule set and masks, each return of the code against the one equation, for any result; and a call whose
 -- checks are made by a function of their own. Assumes nothing.
-use mathlib.Core.Path.{◌≡◌, refl, sym, ◌∙◌}
-use mathlib.Core.Bool.{Bool, true, false, not, ◌&&◌}
+use mathlib.Core.Path.{◌≡◌, sym, ◌∙◌}
+use mathlib.Core.Bool.{Bool, true, false}
 use mathlib.Core.List.{List, [], ◌∷◌}
 use Prim.Native.Nat.{ℕ}
-use lib.Dec.{eqb}
 use Rattle.rules.specs.Checks.{handed, sizes_right, tables_long, tables_right, rules_right, masks_right, rule_checks}
 use Rattle.rules.specs.Answers.{Check, check, decided}
 use Rattle.rules.proofs.Checks.{and_fails, and_goes, sizes_of, rules_tables, refuses, passes}

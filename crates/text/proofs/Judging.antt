@@ -1,12 +1,9 @@
 -- Laws of a line's judgement. Assumes nothing.
 use mathlib.Core.Path.{◌≡◌, refl, ap, sym, ◌∙◌}
-use mathlib.Core.Logic.{⊎_elim}
 use mathlib.Core.Bool.{Bool, true, false, cond, ◌&&◌}
 use mathlib.Core.List.{List, [], ◌∷◌, ◌++◌}
 use Prim.Native.Nat.{ℕ, suc, ◌+◌, ◌≤◌, ◌<◌}
 use native.Mathlib.Omega.{arith}
-use types.Run.{OneOf}
-use denote.Enum.Declared.{tag_of}
 use lib.Dec.{eqb}
 use lib.ListN.{length, get_or, drop, length-append, drop_of_length-le}
 use lib.Seq.{drop-cons}
@@ -21,7 +18,6 @@ use Rattle.text.specs.declared.lines.End.{End}
 use Rattle.text.specs.declared.lines.End.TheVariants.{Fine, Faulty}
 use Rattle.text.specs.declared.numbers.Number.{Number}
 use Rattle.text.specs.declared.numbers.Number.TheVariants.{Value, Malformed, Outside}
-use Rattle.text.specs.contracts.numbers.Number.{the_type}
 use Rattle.text.proofs.Decimals.{Numbered, number_read, Fielded, field_read}
 use Rattle.text.proofs.Scans.{value_is, malformed_is, outside_is}
 

@@ -6,10 +6,7 @@ use mathlib.Core.List.{List, [], ◌∷◌, ◌++◌}
 use Prim.Native.Nat.{ℕ, suc, ◌+◌, ◌-◌, ◌*◌, ◌≤◌, ◌<◌, min}
 use native.Mathlib.Numerals.{add-one}
 use native.Mathlib.Omega.{arith}
-use types.Run.{OneOf, miss}
-use lib.Dec.{T, leb, eqb}
-use mir.Val.{has_key}
-use denote.Enum.Declared.{tag_of}
+use lib.Dec.{leb, eqb}
 use lib.ListN.{length, get_or, drop, length-append, length-drop, drop_of_length-le}
 use lib.Seq.{drop-cons}
 use borrow.Author.Tests.{le-leb, lt-leb, eq-eqb, ne_eqb, leb-true, eqb-true}
@@ -22,8 +19,6 @@ use Rattle.text.specs.declared.bytes.Sort.{Sort}
 use Rattle.text.specs.declared.bytes.Sort.TheVariants.{Digit, Tab, Feed, Small, Other}
 use Rattle.text.specs.declared.numbers.Number.{Number}
 use Rattle.text.specs.declared.numbers.Number.TheVariants.{Value, Malformed, Outside}
-use Rattle.text.specs.contracts.bytes.Sort.{the_type}
-use Rattle.text.specs.contracts.numbers.Number.{the_type as number-type}
 use Rattle.text.proofs.Decimals.{is_digit_lem, digits_past}
 
 pub sort_digit : (b : ℕ) → 48 ≤ b → b ≤ 57 → Digit ≡ sort_of b

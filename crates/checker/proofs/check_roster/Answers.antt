@@ -7,8 +7,8 @@ pub returns-then-number-ne0 : goal.returns-then-number-ne0
 returns-then-number-ne0 c = check_refused _ _ _ _ _ _ _ _ _ _ _ c.judged-answer.ensures _ (λ e. c.if-number-ne0.true (c.number.ensures ∙ e))
 
 pub right-says-requires : goal.right-says-requires
-right-says-requires c =     let r = ready _ _ _ _ _ _ _ _ _ _ _ c.judged-answer.ensures (sym c.number.ensures ∙ c.if-number-ne0.false) in
+right-says-requires c = let r = ready _ _ _ _ _ _ _ _ _ _ _ c.judged-answer.ensures (sym c.number.ensures ∙ c.if-number-ne0.false) in
     (r.0, r.1, search rules, r.2)
 
 pub returns : goal.returns
-returns c =     check_done _ _ _ _ _ _ _ _ _ _ _ c.judged-answer.ensures (sym c.number.ensures ∙ c.if-number-ne0.false) _ c.right-says.ensures
+returns c = check_done _ _ _ _ _ _ _ _ _ _ _ c.judged-answer.ensures (sym c.number.ensures ∙ c.if-number-ne0.false) _ c.right-says.ensures

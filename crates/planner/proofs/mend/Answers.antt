@@ -8,14 +8,16 @@ use Rattle.planner.proofs.mend.Goals.{then-number-gt2, else-number-gt2}
 
 pub shape_of-work-then-number-ne0 : goal.shape_of-work-then-number-ne0
 shape_of-work-then-number-ne0 c = elim c.if-number-gt2.branch [
-      then-number-gt2 w ↦ ap length w.work-is ∙ w.wipe.auto.table
-    | else-number-gt2 w ↦ ap length w.work-is ]
+  | then-number-gt2 w ↦ ap length w.work-is ∙ w.wipe.auto.table
+  | else-number-gt2 w ↦ ap length w.work-is
+]
 
 pub returns-then-number-ne0 : goal.returns-then-number-ne0
 returns-then-number-ne0 c = mend_refused _ _ _ _ _ _ _ _ _ _ _ _ _ c.judged-judged.ensures c.refused.ensures.0 c.refused.ensures.1
     (work_left c.number-number.ensures (elim c.if-number-gt2.branch [
-      then-number-gt2 w ↦ inl (w.if-number-gt2.true, w.work-is ∙ w.wipe.ensures)
-    | else-number-gt2 w ↦ inr (w.if-number-gt2.false, w.work-is) ])) (λ e. c.if-number-ne0.true (c.number-number.ensures ∙ e))
+      | then-number-gt2 w ↦ inl (w.if-number-gt2.true, w.work-is ∙ w.wipe.ensures)
+      | else-number-gt2 w ↦ inr (w.if-number-gt2.false, w.work-is)
+    ])) (λ e. c.if-number-ne0.true (c.number-number.ensures ∙ e))
 
 pub mend_from-made-requires : goal.mend_from-made-requires
 mend_from-made-requires c = let a = c.args in

@@ -16,31 +16,31 @@ returns-then-not-sizes_right c = c.refused.ensures ∙ refuses _ _ _ _ _ (test_f
 
 pub returns-then-not-tables_long : goal.returns-then-not-tables_long
 unfolding report_of
-returns-then-not-tables_long c =     c.refused-then-not-tables_long.ensures ∙ passes _ _ _ _ _ (test_passed c.sizes_right.ensures c.if-not-sizes_right.false)
+returns-then-not-tables_long c = c.refused-then-not-tables_long.ensures ∙ passes _ _ _ _ _ (test_passed c.sizes_right.ensures c.if-not-sizes_right.false)
     (refuses _ _ _ _ _ (and_fails _ _ (test_failed c.tables_long.ensures c.if-not-tables_long.true)))
 
 pub returns-then-roster-places : goal.returns-then-roster-places
 unfolding report_of
-returns-then-roster-places c =     c.refused-then-roster-places.ensures ∙ passes _ _ _ _ _ (test_passed c.sizes_right.ensures c.if-not-sizes_right.false)
+returns-then-roster-places c = c.refused-then-roster-places.ensures ∙ passes _ _ _ _ _ (test_passed c.sizes_right.ensures c.if-not-sizes_right.false)
     (refuses _ _ _ _ _ (and_goes _ _ _ (test_passed c.tables_long.ensures c.if-not-tables_long.false) (ne_eqb _ _ c.if-roster-places.true)))
 
 pub returns-then-not-rules_right : goal.returns-then-not-rules_right
 unfolding report_of
-returns-then-not-rules_right c =     let s = test_passed c.sizes_right.ensures c.if-not-sizes_right.false in
+returns-then-not-rules_right c = let s = test_passed c.sizes_right.ensures c.if-not-sizes_right.false in
     let l = test_passed c.tables_long.ensures c.if-not-tables_long.false in
     c.refused-then-not-rules_right.ensures ∙ passes _ _ _ _ _ s (passes _ _ _ _ _ (and_goes _ _ _ l (eq-eqb _ _ c.if-roster-places.false))
     (refuses _ _ _ _ _ (test_failed (c.rules_right.ensures ∙ rules_tables _ _ _ _ _ _ (sizes_of _ _ _ _ s).size l) c.if-not-rules_right.true)))
 
 pub returns-then-not-values_right : goal.returns-then-not-values_right
 unfolding report_of
-returns-then-not-values_right c =     let s = test_passed c.sizes_right.ensures c.if-not-sizes_right.false in
+returns-then-not-values_right c = let s = test_passed c.sizes_right.ensures c.if-not-sizes_right.false in
     let l = test_passed c.tables_long.ensures c.if-not-tables_long.false in
     c.refused-then-not-values_right.ensures ∙ passes _ _ _ _ _ s (passes _ _ _ _ _ (and_goes _ _ _ l (eq-eqb _ _ c.if-roster-places.false))
     (passes _ _ _ _ _ (test_passed (c.rules_right.ensures ∙ rules_tables _ _ _ _ _ _ (sizes_of _ _ _ _ s).size l) c.if-not-rules_right.false)
     (refuses _ _ _ _ _ (test_failed c.values_right.ensures c.if-not-values_right.true))))
 
 pub report_drawn-requires : goal.report_drawn-requires
-report_drawn-requires c =     let n = sizes_of _ _ _ _ (test_passed c.sizes_right.ensures c.if-not-sizes_right.false) in
+report_drawn-requires c = let n = sizes_of _ _ _ _ (test_passed c.sizes_right.ensures c.if-not-sizes_right.false) in
     let l = test_passed c.tables_long.ensures c.if-not-tables_long.false in
     let r = test_passed (c.rules_right.ensures ∙ rules_tables _ _ _ _ _ _ n.size l) c.if-not-rules_right.false in
     let s = size_of_lem _ _ _ n.size in
@@ -48,7 +48,7 @@ report_drawn-requires c =     let n = sizes_of _ _ _ _ (test_passed c.sizes_righ
 
 pub returns : goal.returns
 unfolding report_of
-returns c =     let a = c.args in
+returns c = let a = c.args in
     let s = test_passed c.sizes_right.ensures c.if-not-sizes_right.false in
     let l = test_passed c.tables_long.ensures c.if-not-tables_long.false in
     let n = c.if-roster-places.false in

@@ -9,11 +9,11 @@ pub returns-then-not-tables_long : goal.returns-then-not-tables_long
 returns-then-not-tables_long c = sym (rules_short _ _ _ _ _ _ (test_passed c.size_right.ensures c.if-not-size_right.false) (test_failed c.tables_long.ensures c.if-not-tables_long.true))
 
 pub tables_right-requires : goal.tables_right-requires
-tables_right-requires c =     let s = size_of_lem _ _ _ (test_passed c.size_right.ensures c.if-not-size_right.false) in
+tables_right-requires c = let s = size_of_lem _ _ _ (test_passed c.size_right.ensures c.if-not-size_right.false) in
     let l = long_tables _ _ (test_passed c.tables_long.ensures c.if-not-tables_long.false) in
     (s.few_states_lem, s.few_values, l.0, l.1)
 
 pub returns : goal.returns
-returns c =     c.tables_right.ensures
+returns c = c.tables_right.ensures
     ∙ sym (rules_tables _ _ _ _ _ _ (test_passed c.size_right.ensures c.if-not-size_right.false)
     (test_passed c.tables_long.ensures c.if-not-tables_long.false))

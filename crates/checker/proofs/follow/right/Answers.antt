@@ -60,8 +60,9 @@ loop-i-preserved c = (
   following_more c.requires.0 c.loop-i.invariant.1 c.loop-i-test.true (test_passed c.has.ensures c.if-not-has.false) c.arc_at-at.ensures
       c.if-states-to.false (test_passed c.in_limit.ensures c.if-not-in_limit.false)
       (elim c.if-v-drawn.branch [
-        then-v-drawn w ↦ count_change _ w.if-v-drawn.true w.changes-is
-      | else-v-drawn w ↦ count_kept _ w.if-v-drawn.false w.changes-is ]),
+        | then-v-drawn w ↦ count_change _ w.if-v-drawn.true w.changes-is
+        | else-v-drawn w ↦ count_kept _ w.if-v-drawn.false w.changes-is
+      ]),
 )
 
 pub returns-then-changes-claimed : goal.returns-then-changes-claimed

@@ -11,18 +11,18 @@ returns-then-not-begins c = sym (strip_wrong _ _ _ _ (begins_false _ _ c.begins.
 
 pub returns-in_default : goal.returns-in_default
 unfolding read_count
-returns-in_default c =     ap wrong c.fault_of.ensures
+returns-in_default c = ap wrong c.fault_of.ensures
     ∙ sym (strip_right _ _ _ _ _ (begins_true _ _ c.begins.result c.begins.ensures c.requires (test_passed refl c.if-not-begins.false))
     ∙ number_wrong _ _ _ c.number_at-n.ensures _ c.in_default.not-Value)
 
 pub returns-in-Fine : goal.returns-in-Fine
 unfolding read_count
-returns-in-Fine c =     sym (strip_right _ _ _ _ _ (begins_true _ _ c.begins.result c.begins.ensures c.requires (test_passed refl c.if-not-begins.false))
+returns-in-Fine c = sym (strip_right _ _ _ _ _ (begins_true _ _ c.begins.result c.begins.ensures c.requires (test_passed refl c.if-not-begins.false))
     ∙ number_right _ _ _ c.number_at-n.ensures _ _ _ c.in-Value.is
     ∙ sealed_is _ _ _ _ c.close_at-e.ensures c.in-Fine.is)
 
 pub returns-in-Faulty : goal.returns-in-Faulty
 unfolding read_count
-returns-in-Faulty c =     sym (strip_right _ _ _ _ _ (begins_true _ _ c.begins.result c.begins.ensures c.requires (test_passed refl c.if-not-begins.false))
+returns-in-Faulty c = sym (strip_right _ _ _ _ _ (begins_true _ _ c.begins.result c.begins.ensures c.requires (test_passed refl c.if-not-begins.false))
     ∙ number_right _ _ _ c.number_at-n.ensures _ _ _ c.in-Value.is
     ∙ sealed_is _ _ _ _ c.close_at-e.ensures c.in-Faulty.is)

@@ -9,7 +9,7 @@ returns-then-value-drawn c = wrote_is _ _ _ _ _ _ (change_none _ _ _ c.if-value-
 
 pub returns : goal.returns
 unfolding change_line
-returns c =     wrote_is _ _ _ _ _ _ (change_some _ _ _ c.if-value-drawn.false)
+returns c = wrote_is _ _ _ _ _ _ (change_some _ _ _ c.if-value-drawn.false)
     (wrote_append _ (omega arith) _ _ _ _ _ _ _ c.put_word-past_word.ensures
     (wrote_append _ (omega (arith, c.output-1.given)) _ _ _ _ _ _ _ c.put_number-past_place.ensures
     (wrote_append _ (omega (arith, c.output-1.given, c.output-2-1.given)) _ _ _ _ _ _ _ c.put_byte-past_tab.ensures

@@ -1,5 +1,4 @@
 use native.Mathlib.Omega.{arith}
-use mathlib.Core.Bool.{true}
 use Rattle.rules.proofs.Checks.{test_failed, test_passed}
 use Rattle.ledger.proofs.Entries.{rows_none, rows_more, rows_no, rows_end}
 use Rattle.machine.proofs.rows.rows_right.Goals as goal

@@ -13,8 +13,9 @@ walk-requires c = let p = c.requires in
 
 pub shape_of-roster : goal.shape_of-roster
 shape_of-roster c = elim c.if-made-most.branch [
-      then-made-most w ↦ ap length w.roster-is ∙ w.walk.auto.roster
-    | else-made-most w ↦ ap length w.roster-is ]
+  | then-made-most w ↦ ap length w.roster-is ∙ w.walk.auto.roster
+  | else-made-most w ↦ ap length w.roster-is
+]
 
 pub returns : goal.returns
 returns c = let p = c.requires in
@@ -22,5 +23,6 @@ returns c = let p = c.requires in
     let n = c.fewest-made in
     mends p.0 a.accepting a.start.0 a.spent p.1 (n.ensures.right p.0 p.1) p.2
     (elim c.if-made-most.branch [
-      then-made-most w ↦ inl (w.if-made-most.true, rw w.roster-is w.walk.ensures)
-    | else-made-most w ↦ inr (w.if-made-most.false, w.roster-is) ]) c.wipe.ensures n.auto.work
+      | then-made-most w ↦ inl (w.if-made-most.true, rw w.roster-is w.walk.ensures)
+      | else-made-most w ↦ inr (w.if-made-most.false, w.roster-is)
+    ]) c.wipe.ensures n.auto.work

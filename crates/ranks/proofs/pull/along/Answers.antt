@@ -20,5 +20,6 @@ unfolding top
 returns c = let l = c.loop-k in
     rw c.lesser.ensures
     (elim c.loop-k-test.branch [
-      else-loop-k-test w ↦ best_end _ _ _ l.k l.best l.invariant.1 w.loop-k-test.false l.invariant.2
-    | then-loop-k-test+then-best-low w ↦ best_stops _ _ _ l.k l.best w.loop-k-test.true (omega (arith, w.cost_of.ensures, w.if-best-low.true)) l.invariant.2 ])
+      | else-loop-k-test w ↦ best_end _ _ _ l.k l.best l.invariant.1 w.loop-k-test.false l.invariant.2
+      | then-loop-k-test+then-best-low w ↦ best_stops _ _ _ l.k l.best w.loop-k-test.true (omega (arith, w.cost_of.ensures, w.if-best-low.true)) l.invariant.2
+    ])

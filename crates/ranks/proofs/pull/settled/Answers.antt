@@ -1,4 +1,4 @@
-use Rattle.std.proofs.Common.{true, arith}
+use Rattle.std.proofs.Common.{arith}
 use Rattle.ranks.proofs.Looking.{settled_none, settled_not, settled_fails, settled_more, settled_end}
 use Rattle.ranks.proofs.pull.settled.Goals as goal
 

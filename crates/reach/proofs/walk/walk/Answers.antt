@@ -108,7 +108,8 @@ returns c = let p = c.requires in
     let a = c.args in
     let o = c.places in
     elim c.places-test.branch [
-      else-places-test w ↦ walks_some (turned a.targets.now a.costs.now) a.states a.values a.start.0 a.spent a.masks.now a.work.now a.roster.now o.roster o.needs o.q.0 o.cost o.i
+      | else-places-test w ↦ walks_some (turned a.targets.now a.costs.now) a.states a.values a.start.0 a.spent a.masks.now a.work.now a.roster.now o.roster o.needs o.q.0 o.cost o.i
           p.0.some_places o.invariant.0 w.places-test.false o.invariant.2 o.invariant.3
-    | then-places-test+then-values-v w ↦ walks_none (turned a.targets.now a.costs.now) a.states a.values a.start.0 a.spent a.masks.now a.work.now a.roster.now o.roster o.needs _ o.q.0 o.cost o.i a.values
-          p.0.few_states_lem w.places-test.true o.invariant.2 o.invariant.1 w.copy.auto.row o.invariant.3 (part_copied ((o.i + 1) * 64) a.work.now p.0.few_states_lem (omega (arith, w.places-test.true, p.0.all_work)) (omega (arith, o.invariant.1, p.0.few_states_lem)) w.copy.ensures) (trying_tried _ _ _ _ _ _ w.loop-needs.invariant w.smallest-v.ensures a.values w.if-values-v.true (omega arith)) (omega arith) ]
+      | then-places-test+then-values-v w ↦ walks_none (turned a.targets.now a.costs.now) a.states a.values a.start.0 a.spent a.masks.now a.work.now a.roster.now o.roster o.needs _ o.q.0 o.cost o.i a.values
+          p.0.few_states_lem w.places-test.true o.invariant.2 o.invariant.1 w.copy.auto.row o.invariant.3 (part_copied ((o.i + 1) * 64) a.work.now p.0.few_states_lem (omega (arith, w.places-test.true, p.0.all_work)) (omega (arith, o.invariant.1, p.0.few_states_lem)) w.copy.ensures) (trying_tried _ _ _ _ _ _ w.loop-needs.invariant w.smallest-v.ensures a.values w.if-values-v.true (omega arith)) (omega arith)
+    ]

@@ -1,5 +1,4 @@
 use native.Mathlib.Omega.{arith}
-use mathlib.Core.Bool.{true}
 use mathlib.Core.Path.{◌∙◌}
 use Rattle.meaning.specs.Bounds.{top}
 use Rattle.rooms.proofs.Filling.{matches_none, matches_more, matches_end, matches_not, low_fits}

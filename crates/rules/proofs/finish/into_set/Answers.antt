@@ -12,8 +12,9 @@ pub loop-at-preserved : goal.loop-at-preserved
 loop-at-preserved c = let l = c.loop-at in
     let b = next_bit 64 l.at l.bit (omega arith) l.invariant.2 in
     elim c.if-next-at-ne0.branch [
-      then-next-at-ne0 w ↦ (omega arith, w.found-is ∙ into_more _ _ l.at l.found l.bit (omega arith) l.invariant.1 l.invariant.2 w.if-next-at-ne0.true, b)
-    | else-next-at-ne0 w ↦ (omega arith, w.found-is ∙ into_skip _ _ l.at l.found l.invariant.1 w.if-next-at-ne0.false, b) ]
+      | then-next-at-ne0 w ↦ (omega arith, w.found-is ∙ into_more _ _ l.at l.found l.bit (omega arith) l.invariant.1 l.invariant.2 w.if-next-at-ne0.true, b)
+      | else-next-at-ne0 w ↦ (omega arith, w.found-is ∙ into_skip _ _ l.at l.found l.invariant.1 w.if-next-at-ne0.false, b)
+    ]
 
 pub returns : goal.returns
 returns c = let e : c.loop-at.at ≡ c.args.states = omega arith in rw e at c.loop-at.invariant.1

@@ -36,7 +36,7 @@ loop-i-preserved c =
     running_more _ _ _ _ _ _ (omega arith) d.0 d.1 c.loop-i.invariant (elim c.if-v-most.branch [ then-v-most w ↦ inl (w.if-v-most.true, w.v-is) | else-v-most w ↦ inr (w.if-v-most.false, w.v-is) ])
 
 pub returns-in_default : goal.returns-in_default
-returns-in_default c =     run_stop _ _ _ _ _ (omega arith)
+returns-in_default c = run_stop _ _ _ _ _ (omega arith)
     (not_digit_sort _ (λ e. other_tag _ c.sort_of-c.result Digit c.sort_of-c.ensures c.in_default.not-Digit (sym e)))
     c.loop-i.invariant
 

@@ -1,0 +1,40 @@
+// Bytes read from a reader and written to a writer, into and from memory that the caller lends.
+#![tactic(auto)]
+
+ghost use Rattle.std.specs.Prelude.{◌≡◌, ◌≤◌, length, take, true};
+ghost use Rattle.std.specs.Fmt.{decimal};
+ghost use Rattle.std.specs.Io.KnownBytes.{Consumes, Appends};
+
+use std::io::{Read, Write};
+
+// Fills a buffer from its start until it is full, the input ends or a read fails, and gives how many bytes it holds then: the first ones
+// of those that the input had left.
+pub fn read_full<R: Read>(input: &mut R, buffer: &mut [u8]) -> usize
+    ensures within { result ≤ length buffer.new }
+    ensures keeps { length buffer.new ≡ length buffer.old }
+    ensures bytes { Consumes (R.remaining input.old) (R.remaining input.new) (take result buffer.new) }
+{
+    let mut done: usize = 0;
+    while done < buffer.len() {
+        match input.read(&mut buffer[done..]) {
+            Ok(0) => return done,
+            Ok(n) => done += n,
+            Err(_) => return done,
+        }
+    }
+    done
+}
+
+// Writes all bytes, or stops where the output takes no more; gives whether all were written.
+pub fn write_all<W: Write>(output: &mut W, bytes: &[u8]) -> bool
+    ensures { result ≡ true → Appends (W.contents output.old) (W.contents output.new) bytes.now }
+{
+    output.write_all(bytes).is_ok()
+}
+
+// Writes a number in decimal digits, as few as it has.
+pub fn write_decimal<W: Write>(output: &mut W, number: u64) -> bool
+    ensures { result ≡ true → Appends (W.contents output.old) (W.contents output.new) (decimal number) }
+{
+    write!(output, "{number}").is_ok()
+}
