@@ -2,60 +2,28 @@
 #![tactic(auto)]
 
 ghost use Rattle.std.specs.Prelude.{◌≡◌};
-ghost use Rattle.rules.specs.Checks.{handed};
-ghost use Rattle.rules.specs.Answers.{number_of};
+ghost use Rattle.rules.specs.Checks.{handed_in};
+ghost use Rattle.rules.specs.Answers.{answer_of};
 ghost use Rattle.mending.specs.Outcomes.{said, check_of};
+ghost use Rattle.checker.specs.Says.{says};
 
 mod answers;
 mod follow;
 
-use rules::{Answer, Size};
-
-// What a checker answers.
-#[derive(Clone, Copy)]
-pub struct Checked {
-    pub answer: Answer,
-    pub says: bool,
-}
+use rules::{Answer, RuleSet};
 
 // The checker: says yes exactly if the roster is allowed and differs from the drawn one in so many places.
 pub fn check_roster(
     places: usize,
-    size: Size,
-    targets: &[u8],
-    costs: &[u16],
-    accepting: u64,
+    rules: &RuleSet<'_>,
     masks: &[u16],
     limits: &[u32],
     drawn: &[u8],
     roster: &[u8],
     claimed: u32,
-) -> Checked
-    ensures { said (number_of result.answer) result.says ≡ check_of (handed places size.states size.values size.start.0 targets.now costs.now accepting) masks.now limits.now drawn.now roster.now claimed }
+) -> Result<bool, Answer>
+    ensures { said (answer_of result) (says result) ≡ check_of (handed_in places rules.now) masks.now limits.now drawn.now roster.now claimed }
 {
-    let answer = answers::judged(
-        places, size, targets, costs, accepting, masks, limits, drawn, roster,
-    );
-    if answer.number() != 0 {
-        return Checked {
-            answer,
-            says: false,
-        };
-    }
-    let start = size.start;
-    let says = follow::right(
-        size.states,
-        size.values,
-        targets,
-        costs,
-        accepting,
-        start,
-        0,
-        masks,
-        limits,
-        drawn,
-        roster,
-        claimed,
-    );
-    Checked { answer, says }
+    answers::judged(places, rules, masks, limits, drawn, roster)?;
+    Ok(follow::right(rules, 0, masks, limits, drawn, roster, claimed))
 }

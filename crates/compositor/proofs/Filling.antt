@@ -1,25 +1,22 @@
 -- Laws of the tables that are filled. Assumes nothing.
 use mathlib.Core.Path.{◌≡◌, refl, sym, ap, ap₂, ◌∙◌}
-use mathlib.Core.Bool.{Bool, true, false, cond, not}
+use mathlib.Core.Bool.{Bool, true, false, cond}
 use mathlib.Core.List.{List, [], ◌∷◌, ◌++◌, map, append-nil, append_assoc, map-append}
-use Prim.Native.Nat.{ℕ, suc, ◌+◌, ◌*◌, ◌%◌, ◌^◌, ◌≤◌, ◌<◌}
+use Prim.Native.Nat.{ℕ, suc, ◌+◌, ◌*◌, ◌^◌, ◌≤◌, ◌<◌}
 use native.Mathlib.Omega.{arith}
 use native.Mathlib.Numerals.{add-one}
-use lib.Bits.{bit_and, bit_or}
-use lib.Dec.{eqb}
-use lib.ListN.{length, get_or, set, take, drop, replicate, length-append, length-take, length-set, length-map, length-replicate, take-append-drop, replicate-append-replicate}
-use lib.Seq.{take-suc, take_all, get_or-take, length-take-le}
-use borrow.Author.Tests.{eq-eqb, ne_eqb}
+use lib.Bits.{bit_or}
+use lib.ListN.{length, get_or, set, take, drop, replicate, length-append, length-take, length-set, length-map, length-replicate, take-append-drop}
+use lib.Seq.{take-suc, take_all, length-take-le}
 use Rattle.kinds.specs.Bits.{mask_of}
-use Rattle.kinds.proofs.Bits.{shl_one, mask_more, mask_skip}
-use Rattle.meaning.specs.Bounds.{most_states, most_values, table_size, no_target}
+use Rattle.kinds.proofs.Bits.{mask_more, mask_skip}
+use Rattle.meaning.specs.Bounds.{most_states, most_values, table_size}
 use Rattle.meaning.specs.Lists.{each}
 use Rattle.meaning.proofs.Lists.{each_append}
-use Rattle.numbering.specs.Numbering.{index_of, row_of, target_of, targets_of, accepting_of, over}
+use Rattle.numbering.specs.Numbering.{row_of, target_of, targets_of, accepting_of, over}
 use Rattle.numbering.proofs.Over.{over_none, over_more, over_length, over_over}
 use Rattle.numbering.proofs.Sheets.{row_targets, row_length, rows_length}
 use Rattle.rules.proofs.Checks.{arcs_few}
-use Rattle.compositor.specs.Inner.{ends_by, Left}
 
 -- a row of targets, as far as i of them
 module _ (f : ℕ → ℕ) (row t₀ : List ℕ) (at : ℕ) where
@@ -58,98 +55,58 @@ module _ (f : ℕ → ℕ) (row t₀ : List ℕ) (at : ℕ) where
 
 -- the rows of the first q states
 module _ (next : ℕ → ℕ → ℕ) (vs : ℕ) (cs t₀ : List ℕ) where
-  pub record Filled (q at : ℕ) (t : List ℕ) : Type 0 where
-    pub place : at ≡ q * vs
+  pub record Filled (q : ℕ) (t : List ℕ) : Type 0 where
     pub long : length t ≡ length t₀
     pub same : t ≡ over (each (row_targets next vs cs) (take q cs)) t₀
 
-  pub filled_start : Filled 0 0 t₀
-  filled_start = record { place = omega arith; long = refl; same = over_none t₀ }
+  pub filled_start : Filled 0 t₀
+  filled_start = record { long = refl; same = over_none t₀ }
 
-  pub filled_on : (q at : ℕ) (row t t' : List ℕ) → q < length cs → q * vs + vs ≤ length t₀ → row ≡ row_of next vs (get_or cs q 0) → Filled q at t
-      → t' ≡ over (take at t ++ map (target_of cs) row) t → Filled (q + 1) (at + vs) t'
-  filled_on q at row t t' h k e f g =
-      let p = f.place in
+  filled_on : (q : ℕ) (row t t' : List ℕ) → q < length cs → q * vs + vs ≤ length t₀ → row ≡ row_of next vs (get_or cs q 0) → Filled q t
+      → t' ≡ over (take (q * vs) t ++ map (target_of cs) row) t → Filled (q + 1) t'
+  filled_on q row t t' h k e f g =
       let l = f.long in
-      let n : length (each (row_targets next vs cs) (take q cs)) ≡ at = rows_length next vs cs (take q cs) ∙ ap (λ (i : ℕ). i * vs) (length-take-le q cs (omega arith)) ∙ sym p in
+      let n : length (each (row_targets next vs cs) (take q cs)) ≡ q * vs = rows_length next vs cs (take q cs) ∙ ap (λ (i : ℕ). i * vs) (length-take-le q cs (omega arith)) in
       let r : length (map (target_of cs) row) ≡ vs = ap (λ (x : List ℕ). length (map (target_of cs) x)) e ∙ row_length next vs cs (get_or cs q 0) in
-      let w : length (take at t ++ map (target_of cs) row) ≡ at + vs
-      = length-append (take at t) (map (target_of cs) row) ∙ ap₂ (λ (a b : ℕ). a + b) (length-take-le at t (omega arith)) r in
+      let w : length (take (q * vs) t ++ map (target_of cs) row) ≡ q * vs + vs
+      = length-append (take (q * vs) t) (map (target_of cs) row) ∙ ap₂ (λ (a b : ℕ). a + b) (length-take-le (q * vs) t (omega arith)) r in
       let one : each (row_targets next vs cs) (take q cs) ++ row_targets next vs cs (get_or cs q 0) ≡ each (row_targets next vs cs) (take (q + 1) cs)
       = ap (λ (x : List ℕ). each (row_targets next vs cs) (take q cs) ++ x) (sym (append-nil (row_targets next vs cs (get_or cs q 0))))
       ∙ sym (each_append (row_targets next vs cs) (take q cs) (get_or cs q 0 ∷ []))
       ∙ ap (each (row_targets next vs cs)) (sym (take-suc cs q 0 h) ∙ ap (λ (j : ℕ). take j cs) (sym (add-one q))) in
       record {
-        place = omega arith;
-        long = ap length g ∙ over_length (take at t ++ map (target_of cs) row) t (omega arith) ∙ l;
+        long = ap length g ∙ over_length (take (q * vs) t ++ map (target_of cs) row) t (omega arith) ∙ l;
         same =
             g
-            ∙ ap₂ (λ (x y : List ℕ). over (take at x ++ map (target_of cs) y) x) f.same e
-            ∙ over_over (each (row_targets next vs cs) (take q cs)) (row_targets next vs cs (get_or cs q 0)) t₀ at n
+            ∙ ap₂ (λ (x y : List ℕ). over (take (q * vs) x ++ map (target_of cs) y) x) f.same e
+            ∙ over_over (each (row_targets next vs cs) (take q cs)) (row_targets next vs cs (get_or cs q 0)) t₀ (q * vs) n
             ∙ ap (λ (x : List ℕ). over x t₀) one;
       }
 
-  pub filled_end : (q at : ℕ) (t : List ℕ) → length cs ≤ q → Filled q at t → t ≡ over (targets_of next vs cs) t₀
+  pub filled_end : (q : ℕ) (t : List ℕ) → length cs ≤ q → Filled q t → t ≡ over (targets_of next vs cs) t₀
   unfolding targets_of
-  filled_end q at t h f = f.same ∙ ap (λ (x : List ℕ). over (each (row_targets next vs cs) x) t₀) (take_all q cs h)
+  filled_end q t h f = f.same ∙ ap (λ (x : List ℕ). over (each (row_targets next vs cs) x) t₀) (take_all q cs h)
 
--- a turn of the loop, as the code makes it
-module _ (next : ℕ → ℕ → ℕ) (vs n : ℕ) (list t₀ t : List ℕ) (q at : ℕ) (f : Filled next vs (take n list) t₀ q at t) where
-  pub filled_room : (row : List ℕ) → length t₀ ≡ table_size → q < most_states → vs ≤ most_values → at + length (take vs row) ≤ length t
-  filled_room row h k v =
-      let l = length-take vs row in
-      let p = f.place in
-      let o = f.long in
-      let m = arcs_few {q = suc q} {v = vs} k v in
-      omega arith
+  -- a turn of the loop, as the code makes it
+  module _ (q : ℕ) (t : List ℕ) (f : Filled q t) (long : length t₀ ≡ table_size) (below : q < length cs) (few : length cs ≤ most_states) (v : vs ≤ most_values) where
+    pub filled_room : (row : List ℕ) → q * vs + length (take vs row) ≤ length t
+    filled_room row =
+        let l = length-take vs row in
+        let o = f.long in
+        let m = arcs_few {q = suc q} {v = vs} (omega arith) v in
+        omega arith
 
-  pub filled_turn : (row row' t' : List ℕ) → n ≤ length list → q < n → length t₀ ≡ table_size → q < most_states → vs ≤ most_values → Left row row' vs (row_of next vs (get_or list q 0))
-      → t' ≡ over (take at t ++ map (target_of (take n list)) (take vs row')) t → Filled next vs (take n list) t₀ (q + 1) (at + vs) t'
-  filled_turn row row' t' h k l m v r e =
-      let w = length-take-le n list h in
-      let a = arcs_few {q = suc q} {v = vs} m v in
-      filled_on next vs (take n list) t₀ q at (take vs row') t t' (omega arith) (omega arith)
-      (r.same ∙ ap (row_of next vs) (sym (get_or-take n list q 0 k))) f e
+    pub filled_turn : (row t' : List ℕ) → take vs row ≡ row_of next vs (get_or cs q 0) → t' ≡ over (take (q * vs) t ++ map (target_of cs) (take vs row)) t → Filled (q + 1) t'
+    filled_turn row t' r e =
+        let a = arcs_few {q = suc q} {v = vs} (omega arith) v in
+        filled_on q (take vs row) t t' below (omega arith) r f e
 
 -- costs
-pub free_none : (c : List ℕ) → c ≡ over (replicate 0 0) c
-free_none c = over_none c
-
-pub free_more : (c₀ c : List ℕ) (i : ℕ) → i < length c₀ → c ≡ over (replicate i 0) c₀ → set c i 0 ≡ over (replicate (i + 1) 0) c₀
-free_more c₀ c i h e =
-    ap (λ (l : List ℕ). set l i 0) e
-    ∙ over_more (replicate i 0) c₀ i 0 (length-replicate {A = ℕ} i 0) h
-    ∙ ap (λ (l : List ℕ). over l c₀) (replicate-append-replicate {A = ℕ} i 1 0)
-
--- one target
-pub target_none : (cs : List ℕ) (c : ℕ) → c ≡ 0 → no_target ≡ target_of cs c
-unfolding target_of
-target_none cs c h = rw (eq-eqb c 0 h)
-
-pub target_some : (cs : List ℕ) (c r : ℕ) → (c ≡ 0 → ⊥) → r ≡ index_of c cs → r ≡ target_of cs c
-unfolding target_of
-target_some cs c r h e = rw (ne_eqb c 0 h) e
-
-pub index_le : (c : ℕ) (xs : List ℕ) → index_of c xs ≤ length xs
-index_le c [] = omega arith
-index_le c (x ∷ xs) = go (eqb x c) (index_le c xs)
-  where
-    go : (b : Bool) → index_of c xs ≤ length xs → cond b 0 (suc (index_of c xs)) ≤ suc (length xs)
-    go true h = omega arith
-    go false h = omega arith
+pub free_by : (c f : List ℕ) (k : ℕ) → k ≤ length c → f ≡ replicate (length (take k c)) 0 → f ++ drop k c ≡ over (replicate k 0) c
+unfolding over
+free_by c f k h e = let l = length-take-le k c h in rw (e, l) (ap (λ (i : ℕ). replicate k 0 ++ drop i c) (sym (length-replicate {A = ℕ} k 0)))
 
 -- the accepting states
-pub ends_empty : (null : Bool) (last c : ℕ) → c ≡ 0 → null ≡ ends_by null last c
-unfolding ends_by
-ends_empty null last c h = rw (eq-eqb c 0 h)
-
-pub ends_other : (null : Bool) (last c : ℕ) → (c ≡ 0 → ⊥) → not (eqb (bit_and c last) 0) ≡ ends_by null last c
-unfolding ends_by
-ends_other null last c h = rw (ne_eqb c 0 h)
-
-pub join_yes : (set q : ℕ) (a : Bool) → q < most_states → a ≡ true → bit_or set (1 * 2 ^ q % 2 ^ 64) ≡ cond a (bit_or set (2 ^ q)) set
-join_yes set q a h e = rw e (ap (bit_or set) (shl_one 64 q h))
-
 module _ (ends : ℕ → Bool) (cs : List ℕ) where
   pub record Joining (q set : ℕ) : Type 0 where
     pub same : set ≡ mask_of (λ i. ends (get_or cs i 0)) q

@@ -10,7 +10,7 @@ use lib.Bits.{bit_or}
 use lib.Dec.{eqb, leb, ltb}
 use lib.ListN.{length, get_or, set, drop, replicate, length-set, length-drop, drop_of_length-le}
 use lib.Seq.{drop-cons, get_or-set_same, get_or-set_other}
-use borrow.Author.Tests.{leb-true, le-leb, lt-leb, ltb-true, ltb-false, lt-ltb, le-ltb, eq-eqb, ne_eqb}
+use borrow.Author.Tests.{leb-true, le-leb, lt-leb, ltb-true, ltb-false, lt-ltb, eq-eqb, ne_eqb}
 use Rattle.kinds.specs.Bits.{mask_of}
 use Rattle.kinds.proofs.Bits.{shl_one, mask_more, mask_skip}
 use Rattle.meaning.specs.Bounds.{most_values}
@@ -18,7 +18,7 @@ use Rattle.meaning.specs.Lists.{all}
 use Rattle.rules.proofs.Checks.{both}
 use Rattle.patterns.specs.Line.{most_letters, is_letter, letters_of, letters_right}
 use Rattle.patterns.specs.Places.{places_of}
-use Rattle.compositor.specs.Inner.{letter_fits, Noted, Letters}
+use Rattle.compositor.specs.Inner.{letter_fits, Noted, Marked}
 use Rattle.compositor.proofs.Joining.{letters_here}
 use Rattle.compositor.proofs.Tables.{zeros}
 
@@ -35,18 +35,6 @@ letter_range b h = let p = both (leb 97 b) _ h in record { low = leb-true _ _ p.
 
 -- whether a byte fits
 module _ (vs k b : ℕ) where
-  pub fits_other : is_letter b ≡ false → true ≡ letter_fits vs k b
-  unfolding letter_fits
-  fits_other h = rw h
-
-  pub fits_high : is_letter b ≡ true → vs ≤ b - 97 → false ≡ letter_fits vs k b
-  unfolding letter_fits
-  fits_high h l = rw (h, le-ltb _ _ l)
-
-  pub fits_last : is_letter b ≡ true → b - 97 < vs → ltb k most_letters ≡ letter_fits vs k b
-  unfolding letter_fits
-  fits_last h l = rw (h, lt-ltb _ _ l)
-
   pub record Fits : Type 0 where
     pub below : b - 97 < vs
     pub room : k < most_letters
@@ -89,16 +77,16 @@ module _ (vs : ℕ) (s : List ℕ) where
     pub long : length marks ≡ most_values
     pub places : (v : ℕ) → get_or marks v 0 ≡ mask_of (λ j. eqb (get_or (letters_of s) j 0) v) k
 
-  pub noting_start : (marks : List ℕ) → marks ≡ replicate most_values 0 → Noting 0 0 marks
+  pub noting_start : Noting 0 0 (replicate most_values 0)
   unfolding mask_of
-  noting_start marks e =
+  noting_start =
       record {
         few = omega arith;
         inside = omega arith;
         rest = refl;
         fit = refl;
-        long = ap length e;
-        places = λ v. ap (λ (l : List ℕ). get_or l v 0) e ∙ zeros most_values v;
+        long = refl;
+        places = λ v. zeros most_values v;
       }
 
   -- the next letter is letter k
@@ -170,9 +158,9 @@ module _ (vs : ℕ) (s : List ℕ) where
             places = λ v. ap (λ (l : List ℕ). get_or l v 0) y.1 ∙ n.places v ∙ ap (mask_of (λ j. eqb (get_or (letters_of s) j 0) v)) (sym y.0);
           }
 
-  pub noting_fails : (i k : ℕ) (marks : List ℕ) → i < length s → letter_fits vs k (get_or s i 0) ≡ false → Noting i k marks → Letters vs (letters_of s) marks false
+  pub noting_fails : (i k : ℕ) (marks : List ℕ) → i < length s → letter_fits vs k (get_or s i 0) ≡ false → Noting i k marks → letters_right vs (letters_of s) ≡ false
   unfolding letter_fits letters_right
-  noting_fails i k marks h f n = record { answer = go (is_letter (get_or s i 0)) refl f; places = λ e. no_true e }
+  noting_fails i k marks h f n = sym (go (is_letter (get_or s i 0)) refl f)
     where
       go : (x : Bool) → is_letter (get_or s i 0) ≡ x → cond x (ltb (get_or s i 0 - 97) vs && ltb k most_letters) true ≡ false
           → false ≡ (leb (length (letters_of s)) most_letters && all (λ v. ltb v vs) (letters_of s))
@@ -184,7 +172,7 @@ module _ (vs : ℕ) (s : List ℕ) where
           side true a g = let m = next_letter i k marks h e n in let j = m.inside in rw (lt-leb (length (letters_of s)) most_letters (omega (arith, ltb-false k most_letters g)))
           side false a g = rw (n.fit, letters_here s i true h e, a) (sym (and-false (leb (length (letters_of s)) most_letters)))
 
-  pub noting_ends : (i k : ℕ) (marks : List ℕ) → length s ≤ i → Noting i k marks → Letters vs (letters_of s) marks true
+  pub noting_ends : (i k : ℕ) (marks : List ℕ) → length s ≤ i → Noting i k marks → Marked vs (letters_of s) marks
   unfolding letters_right places_of letters_of
   noting_ends i k marks h n =
       let c : drop k (letters_of s) ≡ [] = n.rest ∙ ap letters_of (drop_of_length-le s {i = i} h) in
@@ -194,6 +182,6 @@ module _ (vs : ℕ) (s : List ℕ) where
       let o = n.few in
       let e : k ≡ length (letters_of s) = omega arith in
       record {
-        answer = rw (le-leb (length (letters_of s)) most_letters (omega arith)) (sym (n.fit ∙ ap (λ (x : List ℕ). all (λ v. ltb v vs) (letters_of x)) (drop_of_length-le s {i = i} h)));
-        places = λ _ v. n.places v ∙ ap (mask_of (λ j. eqb (get_or (letters_of s) j 0) v)) e;
+        right = rw (le-leb (length (letters_of s)) most_letters (omega arith)) ((n.fit ∙ ap (λ (x : List ℕ). all (λ v. ltb v vs) (letters_of x)) (drop_of_length-le s {i = i} h)));
+        places = λ v. n.places v ∙ ap (mask_of (λ j. eqb (get_or (letters_of s) j 0) v)) e;
       }

@@ -1,50 +1,15 @@
--- Laws for the search in a list, and for a list that grows. Assumes nothing.
-use mathlib.Core.Path.{◌≡◌, refl, sym, ap, ◌∙◌}
-use mathlib.Core.Bool.{Bool, true, false, cond, ◌||◌, or-true}
-use mathlib.Core.List.{List, [], ◌∷◌}
-use Prim.Native.Nat.{ℕ, suc, ◌+◌, ◌≤◌, ◌<◌}
-use native.Mathlib.Omega.{arith}
-use native.Mathlib.Nat.{zero-add}
-use lib.Dec.{eqb, leb}
-use lib.ListN.{length, get_or, take, drop, set, length-set, drop_of_length-le}
-use lib.Seq.{drop-cons, get_or-take, take-suc-set, length-take-le}
-use borrow.Author.Tests.{eq-eqb, ne_eqb, le-leb, lt-leb}
-use Rattle.numbering.specs.Numbering.{is_in, index_of}
-use Rattle.compositor.specs.Inner.{meet_in, meets_in, Left}
+-- Laws for the list that grows. Assumes nothing.
+use Rattle.std.proofs.Common.{◌≡◌, refl, sym, ap, ◌∙◌, Bool, true, false, cond, not, ◌||◌, List, [], ◌∷◌, ℕ, suc, ◌+◌, ◌≤◌, ◌<◌, arith, eqb, leb, nat_lt, length, take, drop, set, get_or, Option, Some, None, is_some, position}
+use Rattle.std.specs.List.{position_or_len}
+use Rattle.std.specs.Prelude.{unwrap_or}
+use mathlib.Core.Bool.{or-true, false≢true}
+use native.Mathlib.Decide.{dec_lt}
+use lib.Seq.{drop-cons, take-suc-set, length-take-le}
+use lib.ListN.{drop_of_length-le}
+use borrow.Author.Tests.{eq-eqb, ne_eqb, le-leb, lt-leb, lt-ltb, le-ltb}
+use Rattle.numbering.specs.Numbering.{is_in, index_of, target_of}
+use Rattle.compositor.specs.Inner.{meet_in, meets_in, list_size}
 use Rattle.numbering.proofs.Numbering.{index_lt}
-
--- the first i numbers of xs are passed, and c is not among them
-pub record Sought (c : ℕ) (xs : List ℕ) (i : ℕ) : Type 0 where
-  pub passed : index_of c xs ≡ i + index_of c (drop i xs)
-
-module _ (c : ℕ) (l : List ℕ) (n : ℕ) (fits : n ≤ length l) where
-  pub seek_start : Sought c (take n l) 0
-  seek_start = record { passed = sym (zero-add (index_of c (take n l))) }
-
-  here : (i : ℕ) → i < n → drop i (take n l) ≡ get_or l i 0 ∷ drop (suc i) (take n l)
-  here i h = let e = length-take-le n l fits in drop-cons (take n l) i 0 (omega arith) ∙ ap (λ (x : ℕ). x ∷ drop (suc i) (take n l)) (get_or-take n l i 0 h)
-
-  pub seek_found : (i : ℕ) → i < n → get_or l i 0 ≡ c → Sought c (take n l) i → i ≡ index_of c (take n l)
-  seek_found i h e s =
-      let k : index_of c (drop i (take n l)) ≡ 0 = ap (index_of c) (here i h) ∙ ap (λ (b : Bool). cond b 0 (suc (index_of c (drop (suc i) (take n l))))) (eq-eqb (get_or l i 0) c e) in
-      let p = s.passed in
-      omega arith
-
-  pub seek_on : (i : ℕ) → i < n → (get_or l i 0 ≡ c → ⊥) → Sought c (take n l) i → Sought c (take n l) (i + 1)
-  seek_on i h e s =
-      let k : index_of c (drop i (take n l)) ≡ suc (index_of c (drop (suc i) (take n l)))
-      = ap (index_of c) (here i h) ∙ ap (λ (b : Bool). cond b 0 (suc (index_of c (drop (suc i) (take n l))))) (ne_eqb (get_or l i 0) c e) in
-      let p = s.passed in
-      let q : i + 1 ≡ suc i = omega arith in
-      record { passed = rw q (omega arith) }
-
-  pub seek_none : (i : ℕ) → i ≤ n → (i < n → ⊥) → Sought c (take n l) i → n ≡ index_of c (take n l)
-  seek_none i h g s =
-      let e : i ≡ n = omega arith in
-      let m = length-take-le n l fits in
-      let k : index_of c (drop i (take n l)) ≡ 0 = ap (index_of c) (drop_of_length-le (take n l) {i = i} (omega arith)) in
-      let p = s.passed in
-      omega arith
 
 index_in : (c : ℕ) (xs : List ℕ) → index_of c xs < length xs → is_in c xs ≡ true
 index_in c [] h = absurd (omega arith)
@@ -61,62 +26,86 @@ index_out c xs h = go (is_in c xs) refl
     go true e = let k = index_lt c xs e in absurd (omega arith)
     go false e = e
 
-module _ (c : ℕ) (t : List ℕ) (n : ℕ) (fits : n ≤ length t) where
-  pub met_none : c ≡ 0 → Left t t n (meet_in (length t) (take n t) c)
-  unfolding meet_in
-  met_none e = record { long = refl; size = fits; same = rw (eq-eqb c 0 e) }
+index_le : (c : ℕ) (xs : List ℕ) → index_of c xs ≤ length xs
+index_le c [] = omega arith
+index_le c (x ∷ xs) = go (eqb x c) (index_le c xs)
+  where
+    go : (b : Bool) → index_of c xs ≤ length xs → cond b 0 (suc (index_of c xs)) ≤ suc (length xs)
+    go true h = omega arith
+    go false h = omega arith
 
-  pub met_full : length t ≤ n → Left t t n (meet_in (length t) (take n t) c)
-  unfolding meet_in
-  met_full h = let e = length-take-le n t fits in record { long = refl; size = fits; same = rw (le-leb (length t) (length (take n t)) (omega arith), or-true (eqb c 0)) }
+-- where the library finds c
+place_is : (c : ℕ) (xs : List ℕ) → position_or_len (λ x. eqb x c) xs ≡ index_of c xs
+place_is c [] = refl
+place_is c (x ∷ xs) = go (eqb x c) (place_is c xs)
+  where
+    go : (b : Bool) → position_or_len (λ x. eqb x c) xs ≡ index_of c xs → cond (not b) (1 + position_or_len (λ x. eqb x c) xs) 0 ≡ cond b 0 (suc (index_of c xs))
+    go true h = refl
+    go false h = omega arith
 
-  pub met_there : index_of c (take n t) < n → Left t t n (meet_in (length t) (take n t) c)
-  unfolding meet_in
-  met_there h =
-      let e = length-take-le n t fits in
-      record { long = refl; size = fits; same = rw (index_in c (take n t) (omega arith), or-true (leb (length t) (length (take n t))), or-true (eqb c 0)) }
+place_by : (c : ℕ) (xs : List ℕ) → position (λ x. eqb x c) xs ≡ cond (is_in c xs) (Some (index_of c xs)) None
+place_by c xs = rw (place_is c xs) (go (dec_lt (index_of c xs) (length xs)))
+  where
+    go : Dec (index_of c xs < length xs) → cond (nat_lt (index_of c xs) (length xs)) (Some (index_of c xs)) None ≡ cond (is_in c xs) (Some (index_of c xs)) None
+    go (yes h) = rw (lt-ltb (index_of c xs) (length xs) h, index_in c xs h)
+    go (no h) = rw (le-ltb (index_of c xs) (length xs) (omega arith), index_out c xs (omega arith))
 
-  pub met_new : (c ≡ 0 → ⊥) → n < length t → n ≤ index_of c (take n t) → Left t (set t n c) (n + 1) (meet_in (length t) (take n t) c)
+pub found_at : (c : ℕ) (xs : List ℕ) (r : Option ℕ) → r ≡ position (λ x. eqb x c) xs → unwrap_or r (length xs) ≡ index_of c xs
+found_at c xs r e = rw (e, place_by c xs) (go (is_in c xs) refl)
+  where
+    go : (b : Bool) → is_in c xs ≡ b → unwrap_or (cond b (Some (index_of c xs)) None) (length xs) ≡ index_of c xs
+    go true h = refl
+    go false h = side (dec_lt (index_of c xs) (length xs))
+      where
+        side : Dec (index_of c xs < length xs) → length xs ≡ index_of c xs
+        side (yes k) = absurd (false≢true (sym h ∙ index_in c xs k))
+        side (no k) = let l = index_le c xs in omega arith
+
+pub found : (c : ℕ) (xs : List ℕ) {r : Option ℕ} {b : Bool} → r ≡ position (λ x. eqb x c) xs → is_some r ≡ b → is_in c xs ≡ b
+found c xs e h = sym (ap is_some (e ∙ place_by c xs) ∙ go (is_in c xs)) ∙ h
+  where
+    go : (b : Bool) → is_some (cond b (Some (index_of c xs)) None) ≡ b
+    go true = refl
+    go false = refl
+
+pub target_by : (c n : ℕ) (list cs : List ℕ) (r : Option ℕ) → take n list ≡ cs → length list ≡ list_size → n ≤ list_size → (c ≡ 0 → ⊥) → r ≡ position (λ x. eqb x c) cs
+    → unwrap_or r n ≡ target_of cs c
+unfolding target_of
+target_by c n list cs r v k i z e =
+    let l = length-take-le n list (omega arith) in
+    let m : n ≡ length cs = omega (arith, ap length v) in
+    rw (ne_eqb c 0 z, m) (found_at c cs r e)
+
+-- c is met
+module _ (c : ℕ) (list : List ℕ) (n : ℕ) (cs : List ℕ) (e : take n list ≡ cs) (k : length list ≡ list_size) where
+  pub met_new : (c ≡ 0 → ⊥) → n < list_size → is_in c cs ≡ false → take (n + 1) (set list n c) ≡ meet_in list_size cs c
   unfolding meet_in
-  met_new z h k =
-      let e = length-take-le n t fits in
+  met_new z h o =
+      let l = length-take-le n list (omega arith) in
+      let m : length cs < list_size = omega (arith, ap length e) in
       let q : n + 1 ≡ suc n = omega arith in
-      record {
-        long = length-set t n c;
-        size = simp length-set (omega arith);
-        same = rw (ne_eqb c 0 z, lt-leb (length t) (length (take n t)) (omega arith), index_out c (take n t) (omega arith), q) (take-suc-set t n c h);
-      }
+      rw (ne_eqb c 0 z, lt-leb list_size (length cs) m, o, q, ← e) (take-suc-set list n c (omega arith))
+
+  pub met_full : n ≤ list_size → list_size ≤ n → cs ≡ meet_in list_size cs c
+  unfolding meet_in
+  met_full i h =
+      let l = length-take-le n list (omega arith) in
+      let m : list_size ≤ length cs = omega (arith, ap length e) in
+      rw (le-leb list_size (length cs) m, or-true (eqb c 0))
+
+pub met_none : (c : ℕ) (cs : List ℕ) → c ≡ 0 → cs ≡ meet_in list_size cs c
+unfolding meet_in
+met_none c cs e = rw (eq-eqb c 0 e)
+
+pub met_there : (c : ℕ) (cs : List ℕ) → is_in c cs ≡ true → cs ≡ meet_in list_size cs c
+unfolding meet_in
+met_there c cs h = rw (h, or-true (leb list_size (length cs)), or-true (eqb c 0))
 
 -- a row: what is met already, and the rest of the row
-module _ (t₀ : List ℕ) (n₀ : ℕ) (row : List ℕ) where
-  pub record Going (t : List ℕ) (n i : ℕ) : Type 0 where
-    pub long : length t ≡ length t₀
-    pub size : n ≤ length t₀
-    pub left : meets_in (length t₀) (take n t) (drop i row) ≡ meets_in (length t₀) (take n₀ t₀) row
+pub going_on : (cs row : List ℕ) (i : ℕ) → i < length row → meets_in list_size (meet_in list_size cs (get_or row i 0)) (drop (i + 1) row) ≡ meets_in list_size cs (drop i row)
+unfolding meets_in
+going_on cs row i h = let q : i + 1 ≡ suc i = omega arith in rw q (ap (meets_in list_size cs) (sym (drop-cons row i 0 h)))
 
-  pub going_start : n₀ ≤ length t₀ → Going t₀ n₀ 0
-  going_start h = record { long = refl; size = h; left = refl }
-
-  pub going_on : (t t' : List ℕ) (n n' i : ℕ) → i < length row → Left t t' n' (meet_in (length t) (take n t) (get_or row i 0)) → Going t n i → Going t' n' (i + 1)
-  unfolding meets_in
-  going_on t t' n n' i h l g =
-      let e = l.long in
-      let f = g.long in
-      let s = l.size in
-      let q : i + 1 ≡ suc i = omega arith in
-      record {
-        long = e ∙ f;
-        size = omega arith;
-        left = rw (q, l.same, f) (ap (λ (xs : List ℕ). meets_in (length t₀) (take n t) xs) (sym (drop-cons row i 0 h)) ∙ g.left);
-      }
-
-  pub going_end : (t : List ℕ) (n i : ℕ) → length row ≤ i → Going t n i → Left t₀ t n (meets_in (length t₀) (take n₀ t₀) row)
-  unfolding meets_in
-  going_end t n i h g =
-      let f = g.long in
-      let s = g.size in
-      record {
-        long = f;
-        size = omega arith;
-        same = sym (ap (λ (xs : List ℕ). meets_in (length t₀) (take n t) xs) (drop_of_length-le row {i = i} h)) ∙ g.left;
-      }
+pub going_end : (cs row : List ℕ) (i : ℕ) → length row ≤ i → meets_in list_size cs (drop i row) ≡ cs
+unfolding meets_in
+going_end cs row i h = ap (meets_in list_size cs) (drop_of_length-le row {i = i} h)

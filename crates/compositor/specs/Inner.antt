@@ -1,17 +1,14 @@
 -- What only the inner functions' contracts cite: the code's tables and answers in the words of the definitions.
-use Rattle.std.specs.Prelude.{◌≡◌, Bool, true, false, cond, not, ◌&&◌, ◌||◌, List, [], ◌∷◌, ◌++◌, ℕ, zero, suc, ◌+◌, ◌-◌, ◌^◌, ◌≤◌, eqb, leb, ltb, length, get_or, set, take, replicate}
+use Rattle.std.specs.Prelude.{◌≡◌, Bool, true, false, cond, not, ◌&&◌, ◌||◌, List, [], ◌∷◌, ◌++◌, ℕ, zero, suc, ◌+◌, ◌-◌, ◌^◌, ◌≤◌, eqb, leb, ltb, length, get_or, set, replicate, Option, Some, None}
 use Rattle.std.specs.Int.Bits.{bit_and, bit_or}
 use Rattle.kinds.specs.Bits.{bit}
 use Rattle.meaning.specs.Bounds.{most_states}
-use Rattle.rules.specs.declared.Answer.{Answer}
 use Rattle.patterns.specs.Pattern.{Pattern, Letter, Then, Or, More, Perhaps, letters, numbered}
 use Rattle.patterns.specs.Places.{null, first, last, places_of, unions}
-use Rattle.patterns.specs.Line.{Parsed, Good, Wrong, most_letters, is_letter, letters_right, lawful, unlawful, read_line}
+use Rattle.patterns.specs.Line.{Parsed, Good, Wrong, most_letters, is_letter, letters_right, lawful, read_line}
 use Rattle.numbering.specs.Numbering.{is_in}
 use Rattle.compositor.specs.declared.parts.Part.{Part}
-use Rattle.compositor.specs.declared.Composed.{Composed}
-use Rattle.compositor.specs.declared.reader.Read.{Read}
-use Rattle.compositor.specs.declared.reader.Read.TheVariants.{At, Bad}
+use Rattle.compositor.specs.declared.states.Automaton.{Automaton}
 
 -- THE LETTERS: whether a byte is no letter, or one below V that there is still room for
 unfoldable pub letter_fits : ℕ → ℕ → ℕ → Bool
@@ -23,18 +20,18 @@ pub record Noted (b k : ℕ) (before after : List ℕ) (r : ℕ) : Type 0 where
   pub letter : is_letter b ≡ true → (r ≡ k + 1) × (after ≡ set before (b - 97) (bit_or (get_or before (b - 97) 0) (2 ^ k)))
 
 -- all letters are noted
-pub record Letters (vs : ℕ) (ls marks : List ℕ) (r : Bool) : Type 0 where
-  pub answer : r ≡ letters_right vs ls
-  pub places : r ≡ true → (v : ℕ) → get_or marks v 0 ≡ places_of ls v
+pub record Marked (vs : ℕ) (ls marks : List ℕ) : Type 0 where
+  pub right : letters_right vs ls ≡ true
+  pub places : (v : ℕ) → get_or marks v 0 ≡ places_of ls v
 
 -- PARTS: what the reader keeps of a pattern whose first letter has place k
 unfoldable pub part_of : ℕ → Pattern → ℕ → Part
 part_of k p e =
     record { at = e; place = k + length (letters p); null = null (numbered k p); first = first (numbered k p); last = last (numbered k p) }
 
-unfoldable pub view_of : ℕ → Parsed → Read
-view_of k (Good p e) = At (part_of k p e)
-view_of k Wrong = Bad
+unfoldable pub view_of : ℕ → Parsed → Option Part
+view_of k (Good p e) = Some (part_of k p e)
+view_of k Wrong = None
 
 -- the table of what can follow each place: f can follow each place of l
 unfoldable pub link_to : List ℕ → ℕ → ℕ → ℕ → List ℕ
@@ -49,7 +46,7 @@ add_follow (More p) fs = link_to (add_follow p fs) (last p) (first p) most_lette
 add_follow (Perhaps p) fs = add_follow p fs
 
 -- what a reader tells, and what it leaves in the table
-pub record Told (k : ℕ) (got : Parsed) (before after : List ℕ) (r : Read) : Type 0 where
+pub record Told (k : ℕ) (got : Parsed) (before after : List ℕ) (r : Option Part) : Type 0 where
   pub answer : r ≡ view_of k got
   pub table : (p : Pattern) (e : ℕ) → got ≡ Good p e → after ≡ add_follow (numbered k p) before
 
@@ -101,6 +98,9 @@ set_by fst fs c = cond (eqb c 0) fst (unions_of fs c most_letters)
 unfoldable pub onward_by : ℕ → List ℕ → List ℕ → ℕ → ℕ → ℕ
 onward_by fst fs ms c v = bit_and (get_or ms v 0) (set_by fst fs c)
 
+abbrev pub onward_in : Automaton → ℕ → ℕ → ℕ
+onward_in a = onward_by a.first a.follow a.marks
+
 unfoldable pub ends_by : Bool → ℕ → ℕ → Bool
 ends_by null last c = cond (eqb c 0) null (not (eqb (bit_and c last) 0))
 
@@ -116,25 +116,13 @@ unfoldable pub meets_in : ℕ → List ℕ → List ℕ → List ℕ
 meets_in cap cs [] = cs
 meets_in cap cs (c ∷ row) = meets_in cap (meet_in cap cs c) row
 
--- the table afterwards: as long as before, and its first n numbers are the list
-pub record Left (before after : List ℕ) (n : ℕ) (cs : List ℕ) : Type 0 where
-  pub long : length after ≡ length before
-  pub size : n ≤ length after
-  pub same : take n after ≡ cs
-
--- A WHOLE LINE: its pattern, of which the part and both tables tell
-pub record LineAt (vs : ℕ) (s marks follow : List ℕ) (x : Part) : Type 0 where
+-- A WHOLE LINE: its pattern, of which the automaton tells
+pub record LineAt (vs : ℕ) (s : List ℕ) (a : Automaton) : Type 0 where
   pub pattern : Pattern
   pub read : read_line vs s ≡ lawful pattern
   pub few : length (letters pattern) ≤ most_letters
-  pub part : x ≡ part_of 0 pattern (length s)
-  pub table : follow ≡ add_follow (numbered 0 pattern) (replicate most_letters 0)
-  pub places : (v : ℕ) → get_or marks v 0 ≡ places_of (letters pattern) v
-
-pub record Taken (vs : ℕ) (s marks follow : List ℕ) (r : Read) : Type 0 where
-  pub wrong : r ≡ Bad → read_line vs s ≡ unlawful
-  pub right : (x : Part) → r ≡ At x → LineAt vs s marks follow x
-
--- a refusal
-abbrev pub refusal : Answer → Composed
-refusal a = record { answer = a; size = record { states = 0; values = 0; start = record { 0 = 0 } }; accepting = 0 }
+  pub nulls : a.null ≡ null (numbered 0 pattern)
+  pub firsts : a.first ≡ first (numbered 0 pattern)
+  pub lasts : a.last ≡ last (numbered 0 pattern)
+  pub table : a.follow ≡ add_follow (numbered 0 pattern) (replicate most_letters 0)
+  pub places : (v : ℕ) → get_or a.marks v 0 ≡ places_of (letters pattern) v

@@ -1,15 +1,16 @@
 // The reader of patterns: a pattern on one line becomes a sheet.
 #![tactic(auto)]
 
-ghost use Rattle.std.specs.Prelude.{◌≡◌, ◌≤◌, replicate};
+ghost use Rattle.std.specs.Prelude.{◌≡◌, ◌≤◌, MatchOption};
 ghost use Rattle.meaning.specs.Bounds.{most_values};
-ghost use Rattle.rules.specs.Answers.{number_of};
-ghost use Rattle.patterns.specs.Line.{most_letters};
-ghost use Rattle.patterns.specs.Outcome.{count_right, pattern_left, pattern_of};
-ghost use Rattle.compositor.specs.Inner.{Taken, refusal};
+ghost use Rattle.patterns.specs.Line.{read_line, unlawful};
+ghost use Rattle.patterns.specs.Outcome.{count_right, pattern_of};
+ghost use Rattle.compositor.specs.Leaving.{left_by};
+ghost use Rattle.compositor.specs.Inner.{LineAt};
 
 mod fill;
 mod letters;
+mod met;
 mod parts;
 mod reader;
 mod states;
@@ -17,102 +18,76 @@ mod states;
 use crate::fill::{accepting_of, fill, free};
 use crate::letters::note_letters;
 use crate::parts::MOST_LETTERS;
-use crate::reader::{Read, read_group};
-use crate::states::explore;
+use crate::reader::read_group;
+use crate::states::Automaton;
 use kinds::State;
-use rules::{Answer, Size, bounds};
+use rules::{Answer, Outline, Size, bounds};
 
 // The longest line, and the deepest group.
 const MOST_BYTES: usize = 256;
 
 const MOST_DEPTH: usize = 8;
 
-// What reading a pattern answers: under 0 the size and the accepting mask.
-#[derive(Clone, Copy)]
-pub struct Composed {
-    pub answer: Answer,
-    pub size: Size,
-    pub accepting: u64,
-}
-
-// A refusal.
-fn refused(answer: Answer) -> Composed
-    ensures { result ≡ refusal answer }
-{
-    Composed {
-        answer,
-        size: Size {
-            states: 0,
-            values: 0,
-            start: State(0),
-        },
-        accepting: 0,
-    }
-}
-
 // Whether V is in range: else answer 1.
+#[tactic(auto, unfolding(patterns::specs::Outcome::count_right))]
 fn count_right(values: usize) -> bool
     ensures { result ≡ count_right values }
 {
-    if values < 1 {
-        return false;
-    }
-    values <= bounds::MOST_VALUES
+    1 <= values && values <= bounds::MOST_VALUES
 }
 
-// Takes a line whole: the places of each value, what can follow each place, and the rest of what is to be known of the pattern.
-fn take_line(line: &[u8], values: usize, marks: &mut [u32], follow: &mut [u32]) -> Read
-    requires { (values ≤ most_values) × (marks.old ≡ replicate most_values 0) × (follow.old ≡ replicate most_letters 0) }
-    ensures { Taken values line.now marks.new follow.new result }
+// Takes a line whole: the automaton of its pattern, if it has one.
+fn take_line(line: &[u8], values: usize) -> Option<Automaton>
+    requires { values ≤ most_values }
+    ensures { MatchOption result (read_line values line.now ≡ unlawful) (LineAt values line.now) }
 {
     if MOST_BYTES < line.len() {
-        return Read::Bad;
+        return None;
     }
-    if !note_letters(line, values, marks) {
-        return Read::Bad;
+    let marks = note_letters(line, values)?;
+    let mut follow = [0u32; MOST_LETTERS];
+    let p = read_group(line, 0, MOST_DEPTH, 0, &mut follow)?;
+    if p.at != line.len() {
+        return None;
     }
-    match read_group(line, 0, MOST_DEPTH, 0, follow) {
-        Read::At(p) => {
-            if p.at == line.len() {
-                return Read::At(p);
-            }
-            Read::Bad
-        }
-        Read::Bad => Read::Bad,
-    }
+    Some(Automaton {
+        null: p.null,
+        first: p.first,
+        last: p.last,
+        follow,
+        marks,
+    })
 }
 
 // Fills the tables from a pattern on one line. Nothing is written before the line is judged and its states are counted.
-pub fn read_pattern(line: &[u8], values: usize, targets: &mut [u8], costs: &mut [u16]) -> Composed
-    ensures { pattern_left (number_of result.answer) result.size.states result.size.values result.size.start.0 result.accepting targets.new costs.new ≡ pattern_of line.now values targets.old costs.old }
+pub fn read_pattern(
+    line: &[u8],
+    values: usize,
+    targets: &mut [u8],
+    costs: &mut [u16],
+) -> Result<Outline, Answer>
+    ensures { left_by result targets.new costs.new ≡ pattern_of line.now values targets.old costs.old }
 {
     if !count_right(values) {
-        return refused(Answer::WrongSize);
+        return Err(Answer::WrongSize);
     }
     if !rules::tables_long(targets, costs) {
-        return refused(Answer::WrongLength);
+        return Err(Answer::WrongLength);
     }
-    let mut marks = [0u32; bounds::MOST_VALUES];
-    let mut follow = [0u32; MOST_LETTERS];
-    match take_line(line, values, &mut marks, &mut follow) {
-        Read::At(p) => {
-            let mut list = [0u32; bounds::MOST_STATES + 1];
-            let n = explore(&mut list, values, p.first, &follow, &marks);
-            if bounds::MOST_STATES < n {
-                return refused(Answer::ManyStates);
-            }
-            fill(targets, values, p.first, &follow, &marks, &list, n);
-            free(costs, n * values);
-            Composed {
-                answer: Answer::Done,
-                size: Size {
-                    states: n,
-                    values,
-                    start: State(0),
-                },
-                accepting: accepting_of(&list, n, p.null, p.last),
-            }
-        }
-        Read::Bad => refused(Answer::WrongPattern),
+    let automaton = take_line(line, values).ok_or(Answer::WrongPattern)?;
+    let met = automaton.explore(values);
+    let states = met.configurations().len();
+    if bounds::MOST_STATES < states {
+        return Err(Answer::ManyStates);
     }
+    fill(targets, values, &automaton, &met);
+    free(costs, states * values);
+    Ok(Outline {
+        size: Size {
+            states,
+            values,
+            start: State(0),
+        },
+        accepting: accepting_of(&automaton, &met),
+    })
 }

@@ -8,7 +8,7 @@ use native.Mathlib.Omega.{arith}
 use native.Mathlib.Decide.{dec_le}
 use lib.Dec.{eqb}
 use lib.ListN.{length, get_or, take, drop, replicate, length-append, take-append-drop}
-use lib.Seq.{take-suc, take_all, take-length, take_at, take-take, length-take-le, get_or-append-add}
+use lib.Seq.{take-suc, take_all, take-length, take_at, take-take, length-take-le}
 use borrow.Author.Tests.{eqb-true, eqb-false, eq-eqb, ne_eqb}
 use Rattle.meaning.specs.Bounds.{most_states, most_values, table_size}
 use Rattle.meaning.specs.Meaning.{Rules}
@@ -31,7 +31,7 @@ use Rattle.scribe.proofs.Longest.{right_short}
 use Rattle.scribe.proofs.Outcomes.{right_writes, right_room}
 use Rattle.scribe.proofs.RoundTrip.{written_reads}
 use Rattle.drafter.specs.Drafting.{longest_input, line_of, values_line, pattern_line, states_line, draft_of, drafted, pattern_job_text, InputFor, with_feed, without}
-use Rattle.drafter.proofs.Making.{line_fed, line_whole, zeros_long, count_in, made_right}
+use Rattle.drafter.proofs.Making.{line_fed, line_whole, last_of, zeros_long, count_in, made_right}
 
 -- THE WRITER WRITES THE SHEET OF A PATTERN, into any buffer that has room for it, and what it wrote reads as the same rule set
 module _ (l : List ℕ) (v : ℕ) (t c : List ℕ) (count : count_right v ≡ true) (long : tables_long t c ≡ true) (done : (pattern_of l v t c).answer ≡ 0) where
@@ -47,10 +47,6 @@ module _ (l : List ℕ) (v : ℕ) (t c : List ℕ) (count : count_right v ≡ tr
   pub pattern_reads : (b : List ℕ) (n : ℕ) (b2 xs ys : List ℕ) → write_of (made_of made) made.start b ≡ write_left 0 n b2 → tables_long xs ys ≡ true → let k = made.states * made.values in
       read_of (take n b2) xs ys ≡ read_left 0 0 made.states made.values made.start made.accepting (take k made.targets ++ drop k xs) (take k made.costs ++ drop k ys)
   pattern_reads b n b2 xs ys = written_reads made.states made.values made.start made.targets made.costs made.accepting b n b2 xs ys
-
--- the last byte of a text
-last_of : (s t : List ℕ) → 1 ≤ length t → get_or (s ++ t) (length (s ++ t) - 1) 0 ≡ get_or t (length t - 1) 0
-last_of s t h = let e : length (s ++ t) - 1 ≡ length s + (length t - 1) = omega (arith, length-append s t) in rw e (get_or-append-add s t (length t - 1) 0)
 
 -- a text whose last byte is no line feed
 record Unfed (s : List ℕ) : Type 0 where
@@ -89,7 +85,7 @@ input_line v l s with_feed = ap line_of (sym (append_assoc (decimal v) (tab ∷ 
   where
     cut : (x : List ℕ) → line_of (x ++ (feed ∷ [])) ≡ x
     cut x = sym (line_fed (x ++ (feed ∷ [])) (last_of x (feed ∷ []) (omega arith))) ∙ take_at x (feed ∷ []) (length (x ++ (feed ∷ [])) - 1) (omega (arith, length-append x (feed ∷ [])))
-input_line v l s (without h) = sym (line_whole s (λ e. h ((behind_tab l).0 (sym (last_of (decimal v) (tab ∷ l) (omega arith)) ∙ e)))) ∙ take-length s
+input_line v l s (without h) = sym (line_whole s (λ e. h ((behind_tab l).0 (sym (last_of (decimal v) (tab ∷ l) (omega arith)) ∙ e))))
 
 -- the texts are told from each other by their second bytes, `pattern` and `values` by the first
 sheet_second : (r : Rules) (s : ℕ) → get_or (sheet_text r s) 1 0 ≡ 105
@@ -178,7 +174,7 @@ line_input v l s e = go (eqb (get_or s (length s - 1) 0) feed) refl
         subst (InputFor v l) (sym u) with_feed
     go false k =
         let h : get_or s (length s - 1) 0 ≡ feed → ⊥ = eqb-false _ _ k in
-        let u : s ≡ decimal v ++ (tab ∷ l) = sym (take-length s) ∙ (line_whole s h ∙ e) in
+        let u : s ≡ decimal v ++ (tab ∷ l) = line_whole s h ∙ e in
         subst (InputFor v l) (sym u) (without (λ z. h (ap (λ (x : List ℕ). get_or x (length x - 1) 0) u ∙ last_of (decimal v) (tab ∷ l) (omega arith) ∙ (behind_tab l).1 z)))
 
 -- `values` exactly if the input is for no V in range and no line

@@ -1,3 +1,2 @@
 pub mod Filter
 pub mod First
-pub mod Inner

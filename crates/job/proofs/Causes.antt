@@ -8,12 +8,13 @@ use native.Mathlib.Omega.{arith}
 use native.Mathlib.Decide.{dec_le}
 use lib.Dec.{eqb}
 use lib.ListN.{length, get_or, drop}
+use Rattle.std.specs.Prelude.{Ok, Err}
 use Rattle.meaning.specs.Meaning.{Rules, Place, rules_of, rosters, verdict_of}
 use Rattle.mending.specs.Mending.{mended}
 use Rattle.rules.specs.declared.Size.{Size}
 use Rattle.text.specs.Bytes.{feed}
 use Rattle.text.specs.Numbers.{field_end}
-use Rattle.text.specs.Lines.{Judged, right, wrong, lines, on_judged}
+use Rattle.text.specs.Lines.{Judged, lines, on_judged}
 use Rattle.text.specs.declared.lines.Fault.{Fault}
 use Rattle.text.proofs.Decimals.{decimal_one}
 use Rattle.sheet.specs.Lines.{Line}
@@ -70,8 +71,8 @@ module _ (p : Program) (apart : Apart p) (s : List ℕ) where
   days_first r q (l ∷ ls) = go (read_days l)
     where
       go : (x : Judged ℕ) → first_byte (on_judged x (λ n. p r q n ls) (λ y. job_line 1)) < 114
-      go (right n) = apart r q n ls
-      go (wrong f) = job_first 1
+      go (Ok n) = apart r q n ls
+      go (Err f) = job_first 1
 
   job_done_first : (r : Outcome) → first_byte (job_done p s r) < 114
   unfolding job_done

@@ -6,7 +6,7 @@ use native.Mathlib.Numerals.{add-one}
 use native.Mathlib.Omega.{arith}
 use borrow.Author.Tests.{ne_eqb}
 use lib.ListN.{length, get_or, take}
-use lib.Seq.{take-suc, take-length, length-take-le}
+use lib.Seq.{take-suc, length-take-le}
 use Rattle.text.specs.Writing.{most_place, Wrote}
 use Rattle.text.proofs.Putting.{wrote_append}
 use Rattle.job.specs.Output.{sheet_line, range_line, wrong_text, kept_line, kept_lines}
@@ -40,6 +40,3 @@ module _ (b : List ℕ) (fits : length b ≤ most_place) (ms : List ℕ) (i : �
     where
       length_taken : 0 + length (take i ms) ≡ i
       length_taken = let l : length (take i ms) ≡ i = length-take-le i ms (omega arith) in omega arith
-
-pub masks_all : (b : List ℕ) (ms : List ℕ) (i : ℕ) (c : List ℕ) (p : ℕ) → i ≡ length ms → Wrote b 0 (kept_lines 0 (take i ms)) c p → Wrote b 0 (kept_lines 0 ms) c p
-masks_all b ms i c p e u = rw (ap (λ (j : ℕ). take j ms) e ∙ take-length ms) at u

@@ -7,7 +7,7 @@ use lib.ListN.{length}
 use borrow.Author.Tests.{eq-eqb, le-leb}
 use Rattle.meaning.specs.Meaning.{places, rosters}
 use Rattle.meaning.specs.Bounds.{plan_size}
-use Rattle.rules.specs.Checks.{handed, size_right, tables_long, rules_right}
+use Rattle.rules.specs.Checks.{Handed, size_right, tables_long, rules_right}
 use Rattle.rules.specs.Answers.{decided}
 use Rattle.rules.proofs.Checks.{both}
 use Rattle.mending.specs.Mending.{mended}
@@ -17,12 +17,12 @@ use Rattle.job.specs.Mend.{changes_line, change_lines, roster_line, mended_text}
 use Rattle.job.specs.Inner.{Ready, Wished}
 
 -- every check is passed
-pub mend_passes : (n q v s : ℕ) (t c : List ℕ) (a : ℕ) (ms ls ds : List ℕ) (k : ℕ) (roster work : List ℕ) → Ready n q v s t c a ms ls → Wished n v ds k
-    → length roster ≡ n → length work ≡ plan_size n
-    → mend_of (handed n q v s t c a) ms ls ds k roster work ≡ mend_done ds (mended ds k (rosters (handed n q v s t c a).rules s 0 (places ms ls))) roster work
+pub mend_passes : (h : Handed) (ms ls ds : List ℕ) (k : ℕ) (roster work : List ℕ) → Ready h ms ls → Wished h.places h.rules.arcs.values ds k
+    → length roster ≡ h.places → length work ≡ plan_size h.places
+    → mend_of h ms ls ds k roster work ≡ mend_done ds (mended ds k (rosters h.rules h.start 0 (places ms ls))) roster work
 unfolding rules_right mend_of mend_from rosters_long decided
-mend_passes n q v s t c a ms ls ds k roster work g w er ew =
-    let b = both (tables_long t c) _ (both (size_right q v s) _ g.rules).1 in
+mend_passes h ms ls ds k roster work g w er ew =
+    let b = both (tables_long h.rules.arcs.targets h.rules.arcs.costs) _ (both (size_right h.rules.arcs.states h.rules.arcs.values h.start) _ g.rules).1 in
     rw (g.sizes, b.0, eq-eqb _ _ g.masks_long, eq-eqb _ _ g.limits_long, eq-eqb _ _ w.drawn_long, eq-eqb _ _ er, eq-eqb _ _ ew, b.1, g.masks, le-leb _ _ w.most, w.drawn_right)
 
 -- what is printed of it

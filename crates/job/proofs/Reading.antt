@@ -9,11 +9,16 @@ use lib.Seq.{take_all}
 use borrow.Author.Tests.{eq-eqb, ne_eqb, lt-ltb, le-ltb}
 use Rattle.meaning.specs.Meaning.{rules_of}
 use Rattle.meaning.specs.Bounds.{table_size}
+use Rattle.std.specs.Prelude.{Err}
 use Rattle.rules.specs.Checks.{tables_long, rules_right}
+use Rattle.rules.specs.Answers.{number_of}
+use Rattle.rules.specs.declared.Answer.{Answer}
+use Rattle.rules.proofs.Refusals.{number_some}
 use Rattle.text.specs.Lines.{lines}
 use Rattle.text.specs.declared.lines.Fault.{Fault}
 use Rattle.sheet.specs.Faults.{FirstWrong}
-use Rattle.sheet.specs.Reading.{Outcome, read_left, fault_answer, read_of}
+use Rattle.sheet.specs.Reading.{Outcome, read_left, fault_answer, unread_answer, unread_line, read_given, read_of}
+use Rattle.sheet.specs.declared.Unread.{Unread}
 use Rattle.sheet.proofs.Answering.{reads_wrong, fault_answers}
 use Rattle.sheet.proofs.FirstWrong.{first_wrong}
 use Rattle.sheet.proofs.OneText.{one_text}
@@ -34,6 +39,11 @@ module _ (p : Program) (s : List ℕ) (r : Outcome) (a n q v b m : ℕ) (t c : L
   unfolding sheet_done job_done
   job_there x w h k =
       subst (λ (o : Outcome). days_done (p (rules_of q v t c m) b) (lines x) ≡ sheet_done p s o) e (rw (eq-eqb a 0 h, k, w))
+
+-- a sheet that is not read, by its answer and its line
+pub sheet_unread : (p : Program) (s : List ℕ) (r : Outcome) (u : Unread) (t c : List ℕ) → read_given (Err u) t c ≡ r → (a : Answer) (n : ℕ) → number_of a ≡ unread_answer u → n ≡ unread_line u
+    → wrong_text (number_of a) n ≡ sheet_done p s r
+sheet_unread p s r u t c e a n d f = rw (d, f) (sheet_wrong p s r (unread_answer u) (unread_line u) 0 0 0 0 t c e (λ z. number_some a (d ∙ z)))
 
 -- the rest of the input, as a part that is lent
 pub rest_is : (s : List ℕ) (i : ℕ) → take (length s - i) (drop i s) ≡ drop i s

@@ -16,7 +16,8 @@ use Rattle.meaning.proofs.Kept.{kept_lt}
 use Rattle.meaning.proofs.Verdicts.{verdict_cheap}
 use Rattle.meaning.proofs.Decisions.{length_decides}
 use Rattle.text.specs.Bytes.{feed}
-use Rattle.text.specs.Lines.{Judged, right, wrong, lines, on_judged}
+use Rattle.text.specs.Lines.{Judged, lines, on_judged}
+use Rattle.std.specs.Prelude.{Ok, Err}
 use Rattle.text.specs.Numbers.{decimal}
 use Rattle.text.specs.Writing.{Wrote}
 use Rattle.text.proofs.Decimals.{decimal_length, field_length}
@@ -25,7 +26,6 @@ use Rattle.sheet.proofs.WrongLine.{read_line_lem}
 use Rattle.job.specs.Input.{longest_input, longest_output, most_days, most_lines, before, parted, after, read_days, read_decision, Job, days, wrong_line, with_decision, read_decisions}
 use Rattle.job.specs.Output.{long_text, none_text, sheet_line, range_line, wrong_text, job_line, kept_line, least_line, kept_lines, verdict_text}
 use Rattle.job.specs.Job.{Program, asked, days_done, done_text, rota, job_done, sheet_done, program_text, job_text}
-use Rattle.job.specs.declared.asks.Count.TheVariants as the-count
 use Rattle.job.proofs.Planning.{right_size, days_range}
 use Rattle.job.proofs.Reading.{read_right}
 
@@ -117,8 +117,8 @@ decisions_in n v k (suc room) (l ∷ ls) h r =
     rw e (go (read_decision n v l) (decisions_in n v (suc k) room ls h (omega arith)))
   where
     go : (x : Judged Decision) → JobIn (suc k + length ls) (read_decisions n v (suc k) room ls) → JobIn (suc k + length ls) (on_judged x (λ d. with_decision d (read_decisions n v (suc k) room ls)) (λ y. wrong_line k))
-    go (right d) m = with_in (suc k + length ls) d (read_decisions n v (suc k) room ls) m
-    go (wrong f) m = omega arith
+    go (Ok d) m = with_in (suc k + length ls) d (read_decisions n v (suc k) room ls) m
+    go (Err f) m = omega arith
 
 pub asked_length : (r : Rules) (n : ℕ) (ds : List Decision) → length (asked r n ds) ≡ n
 asked_length r n ds =
@@ -155,8 +155,8 @@ module _ (p : Program) (short : Short p) where
   days_done_lem r s (l ∷ ls) hv = go (read_days l) refl
     where
       go : (x : Judged ℕ) → read_days l ≡ x → length (on_judged x (λ n. p r s n ls) (λ y. job_line 1)) ≤ most_printed
-      go (right n) e = short r s n ls hv (days_range l (the-count.Right n) n (sym e) refl).1
-      go (wrong f) e = job_line_lem 1 (omega arith)
+      go (Ok n) e = short r s n ls hv (days_range l n (sym e)).1
+      go (Err f) e = job_line_lem 1 (omega arith)
 
   -- of a right sheet
   job_done_lem : (s x t c : List ℕ) → (read_of x t c).answer ≡ 0 → length (job_done p s (read_of x t c)) ≤ most_printed

@@ -1,9 +1,9 @@
 -- The program's input: its two parts, and the lines of its job.
-use Rattle.std.specs.Prelude.{Bool, true, false, cond, ◌&&◌, List, [], ◌∷◌, ℕ, zero, suc, ◌-◌, ◌^◌, eqb}
+use Rattle.std.specs.Prelude.{Bool, true, false, cond, ◌&&◌, List, [], ◌∷◌, ℕ, zero, suc, ◌-◌, ◌^◌, eqb, Err}
 use Rattle.meaning.specs.Meaning.{Decision, Keep, Limit}
 use Rattle.text.specs.Bytes.{tab, feed}
 use Rattle.text.specs.Numbers.{read_number, read_field}
-use Rattle.text.specs.Lines.{Judged, wrong, strip, on_strip, on_field, close, on_judged}
+use Rattle.text.specs.Lines.{Judged, strip, on_strip, on_field, close, on_judged}
 use Rattle.text.specs.declared.lines.Fault.TheVariants.{Form}
 
 -- the sizes of the program
@@ -48,7 +48,7 @@ after start (b ∷ s) = cond (start && eqb b feed) s (after (eqb b feed) s)
 
 -- a line of a word and a number in range
 unfoldable pub read_count : List ℕ → ℕ → ℕ → List ℕ → Judged ℕ
-read_count w lo hi l = on_strip (strip w l) (λ s. on_field (read_number lo hi s) (λ n s. close true n s)) (wrong Form)
+read_count w lo hi l = on_strip (strip w l) (λ s. on_field (read_number lo hi s) (λ n s. close true n s)) (Err Form)
 
 -- the first job line: `days` and n
 unfoldable pub read_days : List ℕ → Judged ℕ
@@ -62,7 +62,7 @@ unfoldable pub read_limit : ℕ → List ℕ → Judged Decision
 read_limit n s = on_field (read_field 0 (n - 1) s) (λ i s. on_field (read_number 0 most_limit s) (λ c s. close true (Limit i c) s))
 
 unfoldable pub read_decision : ℕ → ℕ → List ℕ → Judged Decision
-read_decision n v l = on_strip (strip keep_word l) (read_keep n v) (on_strip (strip limit_word l) (read_limit n) (wrong Form))
+read_decision n v l = on_strip (strip keep_word l) (read_keep n v) (on_strip (strip limit_word l) (read_limit n) (Err Form))
 
 -- the job: n and its decisions, or the number of its first wrong line
 pub data Job : Type 0 where

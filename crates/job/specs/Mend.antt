@@ -1,12 +1,12 @@
 -- MEND, the second program: a job of rota's with two lines more, `drawn` and the values of a drawn roster, and `most` and a number of changes.
-use Rattle.std.specs.Prelude.{Bool, true, false, cond, List, [], ◌∷◌, ◌++◌, ℕ, zero, suc, ◌+◌, ◌-◌, eqb, length}
+use Rattle.std.specs.Prelude.{Bool, true, false, cond, List, [], ◌∷◌, ◌++◌, ℕ, zero, suc, ◌+◌, ◌-◌, eqb, length, Ok, Err}
 use Rattle.meaning.specs.Meaning.{Rules, Place, rosters}
 use Rattle.meaning.specs.Lists.{each, some}
 use Rattle.meaning.specs.Bounds.{most_changes}
 use Rattle.mending.specs.Mending.{changes, mended}
 use Rattle.text.specs.Bytes.{tab, feed}
 use Rattle.text.specs.Numbers.{decimal, read_number, read_field}
-use Rattle.text.specs.Lines.{Judged, right, wrong, strip, on_strip, on_field, close, on_judged}
+use Rattle.text.specs.Lines.{Judged, strip, on_strip, on_field, close, on_judged}
 use Rattle.text.specs.declared.lines.Fault.TheVariants.{Form}
 use Rattle.job.specs.Input.{most_lines, read_count, Job, days, wrong_line, read_decisions}
 use Rattle.job.specs.Output.{none_text, job_line}
@@ -21,12 +21,12 @@ most_word = 109 ∷ 111 ∷ 115 ∷ 116 ∷ tab ∷ []
 
 -- the values of a roster of n places, parted by tabs
 unfoldable pub read_values : ℕ → ℕ → List ℕ → Judged (List ℕ)
-read_values v zero s = wrong Form
+read_values v zero s = Err Form
 read_values v (suc zero) s = on_field (read_number 0 (v - 1) s) (λ x s. close true (x ∷ []) s)
-read_values v (suc (suc n)) s = on_field (read_field 0 (v - 1) s) (λ x s. on_judged (read_values v (suc n) s) (λ w. right (x ∷ w)) wrong)
+read_values v (suc (suc n)) s = on_field (read_field 0 (v - 1) s) (λ x s. on_judged (read_values v (suc n) s) (λ w. Ok (x ∷ w)) Err)
 
 unfoldable pub read_drawn : ℕ → ℕ → List ℕ → Judged (List ℕ)
-read_drawn n v l = on_strip (strip drawn_word l) (read_values v n) (wrong Form)
+read_drawn n v l = on_strip (strip drawn_word l) (read_values v n) (Err Form)
 
 unfoldable pub read_most : List ℕ → Judged ℕ
 read_most l = read_count most_word 0 most_changes l

@@ -22,7 +22,7 @@ mod wish;
 use crate::cut::cut_at;
 use crate::plan::{Task, plan};
 use crate::print::{put_line, put_wrong};
-use rules::bounds;
+use rules::{RuleSet, bounds};
 use sheet::read_sheet;
 use text::puts::put_word;
 
@@ -43,25 +43,20 @@ fn job_in(
     ensures { Wrote output.old 0 (sheet_done (program task) input.now (read_of (before true input.now) targets.old costs.old)) output.new result }
 {
     let cut = cut_at(input);
-    let sheet_end = cut.sheet;
-    let job_start = cut.job;
-    let read = read_sheet(&input[..sheet_end], targets, costs);
-    let answer = read.answer;
-    if answer.number() != 0 {
-        return put_wrong(output, answer, read.line);
-    }
-    if !cut.found {
+    let outline = match read_sheet(&input[..cut.sheet], targets, costs) {
+        Ok(outline) => outline,
+        Err(unread) => return put_wrong(output, unread.answer(), unread.line()),
+    };
+    let Some(job) = cut.job else {
         return put_line(output, 0, b"job\t", 1);
-    }
-    plan(
-        task,
-        &input[job_start..],
-        read.size,
+    };
+    let rules = RuleSet {
+        size: outline.size,
         targets,
         costs,
-        read.accepting,
-        output,
-    )
+        accepting: outline.accepting,
+    };
+    plan(task, &input[job..], &rules, output)
 }
 
 // What a task prints for an input.

@@ -1,7 +1,8 @@
 // What a planner tells, printed.
 ghost use Rattle.std.specs.Prelude.{◌≡◌, cond, [], ◌∷◌, eqb, length};
 ghost use Rattle.meaning.specs.Lists.{each};
-ghost use Rattle.meaning.specs.Meaning.{rules_of, places, rosters};
+ghost use Rattle.meaning.specs.Meaning.{places, rosters};
+ghost use Rattle.rules.specs.Checks.{handed_in, rules_in};
 ghost use Rattle.mending.specs.Mending.{mended};
 ghost use Rattle.text.specs.Bytes.{tab};
 ghost use Rattle.text.specs.Numbers.{decimal};
@@ -12,7 +13,7 @@ ghost use Rattle.job.specs.Inner.{Ready, Wished};
 use crate::print::put_line;
 use crate::show::DAYS;
 use planner::mend;
-use rules::{Size, bounds};
+use rules::{RuleSet, bounds};
 use text::puts::{put_byte, put_number, put_word};
 
 // A row of the work table for each layer and number of changes.
@@ -40,10 +41,8 @@ pub(crate) fn put_changes(output: &mut [u8], at: usize, drawn: &[u8], roster: &[
     ensures { Wrote output.old at (change_lines 0 drawn.now roster.now) output.new result }
 {
     let mut next = at;
-    let mut i: usize = 0;
-    while i < drawn.len() {
+    for i in 0..drawn.len() {
         next = put_change(output, next, i, drawn[i], roster[i]);
-        i += 1;
     }
     next
 }
@@ -61,10 +60,8 @@ pub(crate) fn put_values(output: &mut [u8], at: usize, roster: &[u8]) -> usize
     ensures { Wrote output.old at (each (λ v. tab ∷ decimal v) roster.now) output.new result }
 {
     let mut next = at;
-    let mut i: usize = 0;
-    while i < roster.len() {
-        next = put_value(output, next, roster[i]);
-        i += 1;
+    for value in roster {
+        next = put_value(output, next, *value);
     }
     next
 }
@@ -81,32 +78,25 @@ pub(crate) fn put_roster(output: &mut [u8], at: usize, roster: &[u8]) -> usize
 // Mends, and prints the changes and the mended roster, or that there is none.
 pub(crate) fn show_mended(
     days: usize,
-    size: Size,
-    targets: &[u8],
-    costs: &[u16],
-    accepting: u64,
+    rules: &RuleSet<'_>,
     masks: &[u16],
     limits: &[u32],
     drawn: &[u8],
     most: u32,
     output: &mut [u8],
 ) -> usize
-    requires { Ready days size.states size.values size.start.0 targets.now costs.now accepting masks.now limits.now × Wished days size.values drawn.now most }
-    ensures { Wrote output.old 0 (mended_text drawn.now (mended drawn.now most (rosters (rules_of size.states size.values targets.now costs.now accepting) size.start.0 0 (places masks.now limits.now)))) output.new result }
+    requires { Ready (handed_in days rules.now) masks.now limits.now × Wished days rules.now.size.values drawn.now most }
+    ensures { Wrote output.old 0 (mended_text drawn.now (mended drawn.now most (rosters (rules_in rules.now) rules.now.size.start.0 0 (places masks.now limits.now)))) output.new result }
 {
     let wide = LEVELS * ((days + 1) * bounds::MOST_STATES);
     let mut roster_room = [0u8; DAYS];
     let mut work_room = [0u32; WORK_SIZE];
     let roster = &mut roster_room[..days];
     let work = &mut work_room[..wide];
-    let made = mend(
-        days, size, targets, costs, accepting, masks, limits, drawn, most, roster, work,
-    );
-    let answer = made.answer;
-    if answer.number() != 0 {
+    let Ok(changes) = mend(days, rules, masks, limits, drawn, most, roster, work) else {
         return put_word(output, 0, b"none\n");
-    }
-    let past_count = put_line(output, 0, b"changes\t", made.changes as usize);
+    };
+    let past_count = put_line(output, 0, b"changes\t", changes as usize);
     let past_changes = put_changes(output, past_count, drawn, roster);
     put_roster(output, past_changes, roster)
 }

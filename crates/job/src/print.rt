@@ -22,8 +22,7 @@ pub(crate) fn put_line(output: &mut [u8], at: usize, word: &[u8], number: usize)
 pub(crate) fn put_wrong(output: &mut [u8], answer: Answer, line: usize) -> usize
     ensures { Wrote output.old 0 (wrong_text (number_of answer) line) output.new result }
 {
-    let outside = Answer::NumberOutside;
-    if answer.number() == outside.number() {
+    if answer == Answer::NumberOutside {
         return put_line(output, 0, b"range\t", line);
     }
     put_line(output, 0, b"sheet\t", line)
@@ -43,10 +42,8 @@ pub(crate) fn put_masks(output: &mut [u8], kept: &[u16]) -> usize
     ensures { Wrote output.old 0 (kept_lines 0 kept.now) output.new result }
 {
     let mut at: usize = 0;
-    let mut i: usize = 0;
-    while i < kept.len() {
-        at = put_kept(output, at, i, kept[i]);
-        i += 1;
+    for (i, mask) in kept.iter().enumerate() {
+        at = put_kept(output, at, i, *mask);
     }
     at
 }

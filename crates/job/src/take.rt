@@ -1,14 +1,13 @@
 // The lines of a job, taken one by one into the masks and limits.
-ghost use Rattle.std.specs.Prelude.{◌≡◌, ◌≤◌, length, drop};
+ghost use Rattle.std.specs.Prelude.{◌≡◌, [], ◌∷◌, ◌≤◌, length, drop};
 ghost use Rattle.meaning.specs.Meaning.{places, decides};
 ghost use Rattle.meaning.specs.Bounds.{most_values};
 ghost use Rattle.text.specs.Lines.{lines};
 ghost use Rattle.job.specs.Input.{most_days, most_lines, read_decisions};
-ghost use Rattle.job.specs.Inner.{asks, AskedIn, Took};
+ghost use Rattle.job.specs.Inner.{decision_of, AskedIn, Took};
 
 use crate::asks::{Asked, asked_of};
 use kinds::Mask;
-use rules::numbers::lesser;
 use text::lines::line_end;
 
 // As many decisions as a job may have.
@@ -17,17 +16,14 @@ pub(crate) const MOST_LINES: usize = 512;
 // The number of the first line that there is no room for: the decisions stand behind the days line.
 pub(crate) const LINES_END: usize = MOST_LINES + 2;
 
-// What comes of the lines behind the days line: all are taken, or one is wrong.
+// The number of a job's first wrong line.
 #[derive(Clone, Copy)]
-pub(crate) enum Taken {
-    All,
-    Wrong(usize),
-}
+pub(crate) struct WrongLine(pub(crate) usize);
 
 // Takes one decision: the meet of both masks, or the smaller of both limits.
 pub(crate) fn take_one(asked: Asked, masks: &mut [u16], limits: &mut [u32])
     requires { AskedIn asked (length masks.old) (length limits.old) }
-    ensures { places masks.new limits.new ≡ decides (places masks.old limits.old) (asks asked) }
+    ensures { places masks.new limits.new ≡ decides (places masks.old limits.old) (decision_of asked ∷ []) }
 {
     match asked {
         Asked::Keep(place, mask) => {
@@ -35,9 +31,8 @@ pub(crate) fn take_one(asked: Asked, masks: &mut [u16], limits: &mut [u32])
             masks[place] = met.0;
         }
         Asked::Limit(place, limit) => {
-            limits[place] = lesser(limits[place], limit);
+            limits[place] = limits[place].min(limit);
         }
-        Asked::Wrong(_) => {}
     }
 }
 
@@ -48,24 +43,24 @@ pub(crate) fn take_lines(
     values: usize,
     masks: &mut [u16],
     limits: &mut [u32],
-) -> Taken
+) -> Result<(), WrongLine>
     requires { (1 ≤ length masks.old) × (length masks.old ≤ most_days) × (length limits.old ≡ length masks.old) × (values ≤ most_values) × (from ≤ length text.now) }
     ensures { Took (read_decisions (length masks.old) values 2 most_lines (lines (drop from text.now))) masks.old limits.old result masks.new limits.new }
 {
     let mut at = from;
-    let mut number: usize = 2;
-    while at < text.len() {
-        if number == LINES_END {
-            return Taken::Wrong(number);
+    for number in 2..LINES_END {
+        if text.len() <= at {
+            return Ok(());
         }
         let end = line_end(text, at);
-        let asked = asked_of(&text[at..end], masks.len(), values);
-        if let Asked::Wrong(_) = asked {
-            return Taken::Wrong(number);
-        }
+        let Ok(asked) = asked_of(&text[at..end], masks.len(), values) else {
+            return Err(WrongLine(number));
+        };
         take_one(asked, masks, limits);
         at = end;
-        number += 1;
     }
-    Taken::All
+    if at < text.len() {
+        return Err(WrongLine(LINES_END));
+    }
+    Ok(())
 }

@@ -5,14 +5,30 @@ ghost use Rattle.std.specs.Prelude.{◌≡◌, ◌&&◌, ◌||◌, ◌^◌, min,
 ghost use Rattle.kinds.specs.Bits.{width, bit, mask_of, smallest_of, rest_of};
 
 // A state and a value are two kinds, so that one can't index where the other is meant.
-#[derive(Clone, Copy)]
+#[derive(Clone, Copy, PartialEq, Eq)]
 pub struct State(pub u8);
 
-#[derive(Clone, Copy)]
+#[derive(Clone, Copy, PartialEq, Eq)]
 pub struct Value(pub u8);
 
+impl From<State> for usize {
+    ghost from_gives = { λ q n. n ≡ q.0 };
+
+    fn from(q: State) -> usize {
+        q.0 as usize
+    }
+}
+
+impl From<Value> for usize {
+    ghost from_gives = { λ v n. n ≡ v.0 };
+
+    fn from(v: Value) -> usize {
+        v.0 as usize
+    }
+}
+
 // A place's choices: value v is bit v.
-#[derive(Clone, Copy)]
+#[derive(Clone, Copy, PartialEq, Eq)]
 pub struct Mask(pub u16);
 
 impl Mask {

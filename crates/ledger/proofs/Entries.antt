@@ -1,18 +1,17 @@
 -- Entries as rows of three numbers. Assumes nothing.
 use mathlib.Core.Path.{◌≡◌, refl, sym, ap, ◌∙◌}
-use mathlib.Core.Bool.{Bool, true, false, ◌&&◌}
+use mathlib.Core.Bool.{Bool, true, false}
 use mathlib.Core.List.{List}
-use Prim.Native.Nat.{ℕ, zero, suc, ◌+◌, ◌*◌, ◌^◌, ◌≤◌, ◌<◌}
+use Prim.Native.Nat.{ℕ, zero, suc, ◌+◌, ◌*◌, ◌≤◌, ◌<◌}
 use native.Mathlib.Omega.{arith}
 use native.Mathlib.Numerals.{add-one}
 use native.Mathlib.Nat.{eq-or-lt_of_le}
 use mathlib.Core.Logic.{⊎_elim}
 use lib.ListN.{get_or}
-use lib.Dec.{eqb, ltb}
-use borrow.Author.Tests.{eq-eqb, ne_eqb, lt-ltb, le-ltb}
+use borrow.Author.Tests.{eq-eqb, ne_eqb}
 use Rattle.rules.proofs.Checks.{both, not_so}
 use Rattle.ledger.specs.Sessions.{Entry, decision, mark, is_mark, marks}
-use Rattle.ledger.specs.Layout.{keep_kind, limit_kind, mark_kind, row_size}
+use Rattle.ledger.specs.Layout.{keep_kind, limit_kind, row_size}
 use Rattle.ledger.specs.Memory.{row_right, rows_right, entry_of, entry_at, entries_at}
 use Rattle.ledger.proofs.Numbers.{and_both}
 
@@ -40,27 +39,6 @@ module _ (n v : ℕ) (s : List ℕ) where
 
   pub rows_no : (k i : ℕ) → i < k → row_at n v s i ≡ false → false ≡ rows_right n v k s
   rows_no k i h e = sym (not_so (rows_right n v k s) (λ t. let z : true ≡ false = sym (rows_at k i h t) ∙ e in absurd (let w : ◌≡◌ {A = ℕ} 0 1 = cc in omega arith)))
-
-module _ (n v k p x : ℕ) where
-  pub row_keep : k ≡ keep_kind → p < n → row_right n v k p x ≡ ltb x (2 ^ v)
-  unfolding row_right
-  row_keep e h = rw (eq-eqb k keep_kind e, lt-ltb p n h)
-
-  pub row_far : k ≡ keep_kind → n ≤ p → false ≡ row_right n v k p x
-  unfolding row_right
-  row_far e h = rw (eq-eqb k keep_kind e, le-ltb p n h)
-
-  pub row_limit : (k ≡ keep_kind → ⊥) → k ≡ limit_kind → ltb p n ≡ row_right n v k p x
-  unfolding row_right
-  row_limit d e = rw (ne_eqb k keep_kind d, eq-eqb k limit_kind e)
-
-  pub row_other : (k ≡ keep_kind → ⊥) → (k ≡ limit_kind → ⊥) → (k ≡ mark_kind → ⊥) → false ≡ row_right n v k p x
-  unfolding row_right
-  row_other d e f = rw (ne_eqb k keep_kind d, ne_eqb k limit_kind e, ne_eqb k mark_kind f)
-
-  pub row_mark : (k ≡ keep_kind → ⊥) → (k ≡ limit_kind → ⊥) → k ≡ mark_kind → eqb p 0 && eqb x 0 ≡ row_right n v k p x
-  unfolding row_right
-  row_mark d e f = rw (ne_eqb k keep_kind d, ne_eqb k limit_kind e, eq-eqb k mark_kind f)
 
 -- marks
 pub marks_more : (s : List ℕ) (i m w : ℕ) → m ≡ marks (entries_at i s) → ((p x : ℕ) → w ≡ is_mark (entry_of (get_or s (i * row_size) 0) p x)) → m + w ≡ marks (entries_at (i + 1) s)
@@ -94,9 +72,3 @@ pub marks_le : (k : ℕ) (s : List ℕ) → marks (entries_at k s) ≤ k
 unfolding marks entries_at
 marks_le zero s = omega arith
 marks_le (suc k) s = let a = one_mark (entry_at s k) in let b = marks_le k s in omega arith
-
-pub rows_end : (n v k i : ℕ) (s : List ℕ) → rows_right n v i s ≡ true → i ≡ k → true ≡ rows_right n v k s
-rows_end n v k i s e z = sym (ap (λ (j : ℕ). rows_right n v j s) (sym z) ∙ e)
-
-pub marks_end : (m k i : ℕ) (s : List ℕ) → m ≡ marks (entries_at i s) → i ≡ k → m ≡ marks (entries_at k s)
-marks_end m k i s e z = e ∙ ap (λ (j : ℕ). marks (entries_at j s)) z

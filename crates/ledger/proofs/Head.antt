@@ -1,12 +1,12 @@
 -- The numbers at the head of what is held, one by one. Assumes nothing.
 use mathlib.Core.Path.{◌≡◌, sym}
-use mathlib.Core.Bool.{true, false}
+use mathlib.Core.Bool.{true}
 use mathlib.Core.List.{List}
 use Prim.Native.Nat.{ℕ, ◌≤◌}
 use lib.ListN.{get_or, drop, take}
 use lib.Dec.{eqb, leb}
 use borrow.Author.Tests.{eq-eqb, eqb-true, le-leb, leb-true}
-use Rattle.rules.proofs.Checks.{both, not_so}
+use Rattle.rules.proofs.Checks.{both}
 use Rattle.ledger.specs.Layout.{most_decisions, most_marks, spare_size}
 use Rattle.ledger.specs.Memory.{all_zero, head_right}
 
@@ -41,6 +41,3 @@ module _ (n q v start : ℕ) (l : List ℕ) where
         },
         (both (leb (get_or l 5 0) most_marks) _ e5).1,
       )
-
-  pub head_no : (Head n q v start l → ⊥) → false ≡ head_right n q v start l
-  head_no h = sym (not_so (head_right n q v start l) (λ e. h (head_all e).0))

@@ -1,35 +1,20 @@
 -- Tests of a whole list by index, and parts of lists. Assumes nothing.
-use mathlib.Core.Path.{◌≡◌, refl, sym, ap, ap₂, ◌∙◌}
+use mathlib.Core.Path.{◌≡◌, refl, ap₂}
 use mathlib.Core.Bool.{Bool, true, false, ◌&&◌}
 use mathlib.Core.List.{List, [], ◌∷◌}
 use Prim.Native.Nat.{ℕ, zero, suc, ◌+◌, ◌-◌, ◌^◌, ◌≤◌, ◌<◌}
 use native.Mathlib.Omega.{arith}
-use native.Mathlib.Numerals.{add-one}
-use lib.ListN.{length, get_or, drop, take, replicate, drop_of_length-le, length-take, length-drop}
-use lib.Seq.{drop-cons, take_all}
+use lib.ListN.{length, get_or, drop, take, replicate, length-take, length-drop}
+use lib.Seq.{take_all}
 use lib.Dec.{eqb, ltb}
-use borrow.Author.Tests.{eq-eqb, ne_eqb, eqb-true, ltb-true, lt-ltb, le-ltb}
+use borrow.Author.Tests.{eq-eqb, eqb-true, ltb-true, lt-ltb}
 use Rattle.rules.specs.Checks.{masks_right}
-use Rattle.rules.proofs.Checks.{both, all_more, all_fails, all_ends}
+use Rattle.rules.proofs.Checks.{both}
 use Rattle.ledger.specs.Memory.{all_below, all_zero, same}
 
 pub and_both : (a b : Bool) → a ≡ true → b ≡ true → (a && b) ≡ true
 and_both true b e f = f
 and_both false b e f = cc
-
--- a loop that tests the numbers of a list one by one
-module _ (t : ℕ) (s : List ℕ) (i : ℕ) (inv : all_below t s ≡ all_below t (drop i s)) where
-  pub below_no : i < length s → t ≤ get_or s i 0 → false ≡ all_below t s
-  unfolding all_below
-  below_no h e = sym (inv ∙ all_fails (λ x. ltb x t) s i h (le-ltb (get_or s i 0) t e))
-
-  pub below_on : i < length s → get_or s i 0 < t → all_below t s ≡ all_below t (drop (i + 1) s)
-  unfolding all_below
-  below_on h e = inv ∙ all_more (λ x. ltb x t) s i h (lt-ltb (get_or s i 0) t e)
-
-  pub below_end : length s ≤ i → true ≡ all_below t s
-  unfolding all_below
-  below_end h = sym (inv ∙ all_ends (λ x. ltb x t) s i h)
 
 pub below_at : (t : ℕ) (s : List ℕ) → all_below t s ≡ true → (i : ℕ) → i < length s → get_or s i 0 < t
 unfolding all_below
@@ -76,25 +61,6 @@ pub same_refl : (a : List ℕ) → same a a ≡ true
 unfolding same
 same_refl [] = refl
 same_refl (x ∷ xs) = and_both (eqb x x) (same xs xs) (eq-eqb x x refl) (same_refl xs)
-
-module _ (s t : List ℕ) (i : ℕ) (inv : same s t ≡ same (drop i s) (drop i t)) where
-  module _ (h : i < length s) (k : i < length t) where
-    pub same_no : (get_or s i 0 ≡ get_or t i 0 → ⊥) → false ≡ same s t
-    unfolding same
-    same_no e =
-        sym (inv ∙ ap₂ same (drop-cons s i 0 h) (drop-cons t i 0 k)
-        ∙ ap (λ (b : Bool). b && same (drop (suc i) s) (drop (suc i) t)) (ne_eqb (get_or s i 0) (get_or t i 0) e))
-
-    pub same_on : get_or s i 0 ≡ get_or t i 0 → same s t ≡ same (drop (i + 1) s) (drop (i + 1) t)
-    unfolding same
-    same_on e =
-        inv ∙ ap₂ same (drop-cons s i 0 h) (drop-cons t i 0 k)
-        ∙ ap (λ (b : Bool). b && same (drop (suc i) s) (drop (suc i) t)) (eq-eqb (get_or s i 0) (get_or t i 0) e)
-        ∙ ap (λ (k : ℕ). same (drop k s) (drop k t)) (sym (add-one i))
-
-  pub same_end : length s ≤ i → length t ≤ i → true ≡ same s t
-  unfolding same
-  same_end h k = sym (inv ∙ ap₂ same (drop_of_length-le s h) (drop_of_length-le t k))
 
 -- a part that is lent from a on
 pub tail_is : (a : ℕ) (l : List ℕ) → take (length l - a) (drop a l) ≡ drop a l

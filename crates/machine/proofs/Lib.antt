@@ -1,4 +1,5 @@
 pub mod Copies
+pub mod Numbered
 pub mod Lents
 pub mod Ranges
 pub mod Replays

@@ -1,54 +1,27 @@
 -- The tests of what is held, one law for each step of the code. Assumes nothing.
-use mathlib.Core.Path.{◌≡◌, sym, ap, ap₂, ◌∙◌}
-use mathlib.Core.Bool.{Bool, true, false, ◌&&◌}
+use mathlib.Core.Path.{◌≡◌, sym, ap₂, ◌∙◌}
+use mathlib.Core.Bool.{Bool, true}
 use mathlib.Core.List.{List}
 use Prim.Native.Nat.{ℕ, ◌+◌, ◌-◌, ◌*◌, ◌^◌, ◌≤◌, ◌<◌, min}
 use native.Mathlib.Omega.{arith}
 use lib.ListN.{get_or, drop, take}
-use lib.Dec.{eqb, ltb}
+use lib.Dec.{ltb}
 use lib.Pow.{pow_mono}
 use borrow.Author.Tests.{eq-eqb, ne_eqb, ltb-true}
 use Rattle.kinds.specs.Bits.{width}
 use Rattle.meaning.specs.Bounds.{most_values}
 use Rattle.rules.proofs.Checks.{both}
-use Rattle.ledger.specs.Sessions.{marks}
 use Rattle.ledger.specs.Layout.{row_size, rows_size, head_size, opening_place}
-use Rattle.ledger.specs.Memory.{all_below, all_zero, row_right, rows_right, entries_at, head_right, room_right, held_right, rows_of}
+use Rattle.ledger.specs.Memory.{all_below, row_right, rows_right, head_right, room_right, held_right, rows_of}
 use Rattle.ledger.proofs.Numbers.{masks_below}
 use Rattle.ledger.proofs.Entries.{rows_at}
 use Rattle.machine.specs.Inner.{RowSafe, RowsSafe}
-
-module _ (n v d m k : ℕ) (s : List ℕ) (is : k ≡ d + m) where
-  pub room_1 : rows_right n v k s ≡ false → false ≡ room_right n v d m s
-  unfolding room_right
-  room_1 e = sym (ap (λ (b : Bool). b && (eqb (marks (entries_at (d + m) s)) m && all_zero (drop ((d + m) * row_size) s))) (ap (λ (j : ℕ). rows_right n v j s) (sym is) ∙ e))
-
-  pub room_2 : (x : ℕ) → rows_right n v k s ≡ true → x ≡ marks (entries_at k s) → (x ≡ m → ⊥) → false ≡ room_right n v d m s
-  unfolding room_right
-  room_2 x e f g =
-      sym (ap₂ (λ (b b' : Bool). b && (b' && all_zero (drop ((d + m) * row_size) s))) (ap (λ (j : ℕ). rows_right n v j s) (sym is) ∙ e)
-      (ne_eqb (marks (entries_at (d + m) s)) m (λ h. g (f ∙ ap (λ (j : ℕ). marks (entries_at j s)) is ∙ h))))
-
-  pub room_3 : (x : ℕ) → rows_right n v k s ≡ true → x ≡ marks (entries_at k s) → x ≡ m → all_zero (drop (k * row_size) s) ≡ room_right n v d m s
-  unfolding room_right
-  room_3 x e f g =
-      sym (ap₂ (λ (b b' : Bool). b && (b' && all_zero (drop ((d + m) * row_size) s))) (ap (λ (j : ℕ). rows_right n v j s) (sym is) ∙ e)
-      (eq-eqb (marks (entries_at (d + m) s)) m (ap (λ (j : ℕ). marks (entries_at j s)) (sym is) ∙ sym f ∙ g))
-      ∙ ap (λ (j : ℕ). all_zero (drop (j * row_size) s)) (sym is))
 
 -- the bound of a mask of values that it has room for
 pub few_bound : (v : ℕ) → v ≤ most_values → 2 ^ min v width ≡ 2 ^ v
 few_bound v h = let e : min v width ≡ v = omega arith in rw e
 
 module _ (n q v start : ℕ) (l : List ℕ) where
-  pub held_1 : head_right n q v start l ≡ false → false ≡ held_right n q v start l
-  unfolding held_right
-  held_1 e = rw e
-
-  pub held_2 : head_right n q v start l ≡ true → room_right n v (get_or l 4 0) (get_or l 5 0) (take rows_size (drop head_size l)) ≡ false → false ≡ held_right n q v start l
-  unfolding held_right rows_of
-  held_2 e f = rw (e, f)
-
   pub held_3 : v ≤ most_values → head_right n q v start l ≡ true → room_right n v (get_or l 4 0) (get_or l 5 0) (take rows_size (drop head_size l)) ≡ true
       → (t : ℕ) → t ≡ 2 ^ min v width → (b : Bool) → b ≡ all_below t (take (opening_place + n - opening_place) (drop opening_place l)) → b ≡ held_right n q v start l
   unfolding held_right rows_of

@@ -8,11 +8,11 @@ use lib.ListN.{length, take, length-drop}
 use Rattle.rules.specs.Checks.{Handed}
 use Rattle.rules.specs.Answers.{check, decided, work_after, zeros}
 use Rattle.rules.proofs.Checks.{Passed, size_of_lem, sizes_of}
-use Rattle.ledger.specs.Readiness.{readiness, ready_of, Left, left, lent_checks, renew_checks, renewed_of, renewed_by, Lent}
+use Rattle.ledger.specs.Readiness.{readiness, ready_of, Left, left, lent_checks, renew_checks, renewed_of, renewed_by}
 use Rattle.ledger.specs.Layout.{shown_size}
-use Rattle.ledger.specs.Memory.{held_in, held_right, same, shown_of, verdict_held, well_formed, Held}
+use Rattle.ledger.specs.Memory.{held_in, held_right, same, shown_of, verdict_held, well_formed}
 use Rattle.ledger.proofs.Checked.{through, refused_on, passed_on, lent_of_lem, memory_of}
-use Rattle.machine.specs.Inner.{Compared, lent_of}
+use Rattle.machine.specs.Inner.{Compared, Filterable, lent_of}
 
 -- two checks of one number are one
 split : {A : Type 0} (b d : Bool) (x y : A) → cond (b && d) x y ≡ cond b (cond d x y) y
@@ -46,18 +46,18 @@ module _ (h : Handed) (m w w' : List ℕ) (a : ℕ) (e : readiness a w' ≡ lent
     lent_passed : Passed (lent_checks h (length m) (length w))
     lent_passed = let p = passed.0 in (p.0, (p.1.0, (p.1.1.0, tt)))
 
-    pub checked : Lent h w' × Held h.places h.rules.arcs.states h.rules.arcs.values h.start (held_in h.places m)
+    pub checked : Filterable h m w'
     checked =
-        let s = sizes_of _ _ _ _ lent_passed.0 in (
-          rw passed.1 (lent_of_lem h (length m) w lent_passed),
-          record {
+        let s = sizes_of _ _ _ _ lent_passed.0 in record {
+          lent = rw passed.1 (lent_of_lem h (length m) w lent_passed);
+          held = record {
             some_places = s.some_places;
             few_places = s.few_places;
             few_values = (size_of_lem _ _ _ s.size).few_values;
             long = simp length-drop (omega (arith, memory_of h (length m) w lent_passed));
             right = passed.0.1.1.1.0;
-          },
-        )
+          };
+        }
 
     module _ (r : Bool) (u : List ℕ) (j : Compared h m w' r u) where
       ready_tail : ready_of h m w ≡ decided (check 12 r ∷ []) (λ n. readiness n (work_after n w)) (readiness 0 (zeros w))

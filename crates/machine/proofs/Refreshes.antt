@@ -80,10 +80,10 @@ module _ (h : Handed) (m w w' ks : List ℕ) (a c : ℕ) (long : length ks ≡ h
     work_after_lem = work_is;
   }
 
-  pub renews : (y : List ℕ) → y ≡ shown_of (verdict a ks c) ++ drop (shown_size (length ks)) m → left a y w' ≡ renewed_by h (held_in h.places m) w
+  pub renews : (y : List ℕ) → y ≡ shown_of (verdict a ks c) ++ drop (shown_size (length ks)) m → (b : ℕ) → b ≡ a → left b y w' ≡ renewed_by h (held_in h.places m) w
   unfolding renewed_by
-  renews y e =
-      ap₂ (λ (x u : List ℕ). left a x u) (e ∙ ap (λ (n : ℕ). shown_of (verdict a ks c) ++ drop (shown_size n) m) long) work_is
+  renews y e b f =
+      ap (λ (n : ℕ). left n y w') f ∙ ap₂ (λ (x u : List ℕ). left a x u) (e ∙ ap (λ (n : ℕ). shown_of (verdict a ks c) ++ drop (shown_size n) m) long) work_is
       ∙ ap (λ (x : Verdict). left x.answered (shown_of x ++ held_in h.places m) (zeros w)) shown_is
 
 -- the front of the local arrays

@@ -51,9 +51,6 @@ module _ (s : List ℕ) (o : List Place) where
       ∙ sym (decides_append o (standing (entries_at i s)) (standing (entry_at s i ∷ [])))
       ∙ ap (decides o) (sym (standing_more (entry_at s i) (entries_at i s)) ∙ ap (λ (j : ℕ). standing (entries_at j s)) (sym (add-one i)))
 
-  pub replay_end : (i k : ℕ) (a : List Place) → a ≡ decides o (standing (entries_at i s)) → i ≡ k → a ≡ decides o (standing (entries_at k s))
-  replay_end i k a e z = e ∙ ap (λ (j : ℕ). decides o (standing (entries_at j s))) z
-
 -- one row of those that are safe
 pub safe_at : (k i a a' b b' : ℕ) (s : List ℕ) → RowsSafe k s a b → i < k → a' ≡ a → b' ≡ b
     → RowSafe (get_or s (i * row_size) 0) (get_or s (i * row_size + 1) 0) (get_or s (i * row_size + 2) 0) a' b'

@@ -2,9 +2,9 @@
 use Rattle.std.specs.Prelude.{◌≡◌, Bool, true, List, ℕ, ◌+◌, ◌*◌, ◌≤◌, ◌<◌, length, get_or, take, drop}
 use Rattle.rules.specs.Checks.{Handed}
 use Rattle.rules.specs.Answers.{zeros, work_after, decided}
-use Rattle.ledger.specs.Readiness.{Ready, readiness, renew_checks}
+use Rattle.ledger.specs.Readiness.{Ready, readiness, renew_checks, Lent}
 use Rattle.ledger.specs.Layout.{keep_kind, limit_kind, row_size, rows_size, head_size, opening_place, held_size, shown_size, most_entries}
-use Rattle.ledger.specs.Memory.{all_below, held_in, same, shown_of, verdict_held}
+use Rattle.ledger.specs.Memory.{all_below, held_in, same, shown_of, verdict_held, Held}
 
 -- what the replay asks of a row: its place is there, and a mask is one
 pub record RowSafe (k p x masks limits : ℕ) : Type 0 where
@@ -21,6 +21,11 @@ pub record Replayable (n : ℕ) (l : List ℕ) : Type 0 where
   pub narrow : all_below 65536 (take n (drop opening_place l)) ≡ true
   pub few_entries : get_or l 4 0 + get_or l 5 0 ≤ most_entries
   pub rows : RowsSafe (get_or l 4 0 + get_or l 5 0) (take rows_size (drop head_size l)) n n
+
+-- what a filter of what is held asks: a rule set and a work table that pass the checks, and all that is held in range
+pub record Filterable (h : Handed) (memory work : List ℕ) : Type 0 where
+  pub lent : Lent h work
+  pub held : Held h.places h.rules.arcs.states h.rules.arcs.values h.start (held_in h.places memory)
 
 -- whether what is shown is what is told of what is held, and the work table after that
 pub record Compared (h : Handed) (memory work : List ℕ) (r : Bool) (after : List ℕ) : Type 0 where

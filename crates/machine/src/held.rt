@@ -9,33 +9,22 @@ use kinds::Mask;
 use rules::Size;
 
 // Whether the sizes held are those handed in, both counts are in range, and zeros follow.
+#[tactic(auto, unfolding(ledger::specs::Memory::head_right))]
 pub(crate) fn head_right(places: usize, size: Size, held: &[u32]) -> bool
     requires { opening_place ≤ length held.now }
     ensures { result ≡ head_right places size.states size.values size.start.0 held.now }
 {
-    if held[0] as usize != places {
-        return false;
-    }
-    if held[1] as usize != size.states {
-        return false;
-    }
-    if held[2] as usize != size.values {
-        return false;
-    }
-    let start = size.start;
-    if held[3] != start.0 as u32 {
-        return false;
-    }
-    if layout::MOST_DECISIONS < held[layout::DECISIONS] {
-        return false;
-    }
-    if layout::MOST_MARKS < held[layout::MARKS] {
-        return false;
-    }
-    lists::all_below(&held[layout::SPARE..layout::ROWS], 1)
+    held[layout::PLACES] as usize == places
+        && held[layout::STATES] as usize == size.states
+        && held[layout::VALUES] as usize == size.values
+        && held[layout::START] == u32::from(size.start.0)
+        && held[layout::DECISIONS] <= layout::MOST_DECISIONS
+        && held[layout::MARKS] <= layout::MOST_MARKS
+        && lists::all_below(&held[layout::SPARE..layout::ROWS], 1)
 }
 
 // Whether the rows hold so many decisions and marks, in range, and zeros behind them.
+#[tactic(auto, unfolding(ledger::specs::Memory::room_right))]
 pub(crate) fn room_right(
     places: usize,
     values: usize,
@@ -47,34 +36,27 @@ pub(crate) fn room_right(
     ensures { result ≡ room_right places values decisions marks rows.now }
 {
     let count = (decisions + marks) as usize;
-    if !rows::rows_right(places, values, count, rows) {
-        return false;
-    }
-    if rows::marks_among(count, rows) != marks {
-        return false;
-    }
-    let end = count * layout::ROW_SIZE;
-    lists::all_below(&rows[end..], 1)
+    rows::rows_right(places, values, count, rows)
+        && rows::marks_among(count, rows) == marks
+        && lists::all_below(&rows[count * layout::ROW_SIZE..], 1)
 }
 
 // Whether all that is held is in range.
+#[tactic(auto, unfolding(ledger::specs::Memory::held_right, ledger::specs::Memory::rows_of))]
 pub(crate) fn held_right(places: usize, size: Size, held: &[u32]) -> bool
     requires { (places ≤ most_places) × (size.values ≤ most_values) × (length held.now ≡ held_size places) }
     ensures { result ≡ held_right places size.states size.values size.start.0 held.now }
 {
-    if !head_right(places, size, held) {
-        return false;
-    }
-    let values = size.values;
-    if !room_right(
-        places,
-        values,
-        held[layout::DECISIONS],
-        held[layout::MARKS],
-        &held[layout::ROWS..layout::OPENING],
-    ) {
-        return false;
-    }
-    let end = layout::OPENING + places;
-    lists::all_below(&held[layout::OPENING..end], Mask::bound(values))
+    head_right(places, size, held)
+        && room_right(
+            places,
+            size.values,
+            held[layout::DECISIONS],
+            held[layout::MARKS],
+            &held[layout::ROWS..layout::OPENING],
+        )
+        && lists::all_below(
+            &held[layout::OPENING..layout::OPENING + places],
+            Mask::bound(size.values),
+        )
 }

@@ -5,22 +5,27 @@ pub const MOST_MARKS: u32 = 64;
 
 pub const MOST_ENTRIES: usize = MOST_DECISIONS as usize + MOST_MARKS as usize;
 
-// The kinds of an entry.
-pub const KEEP: u32 = 1;
-
-pub const LIMIT: u32 = 2;
-
-pub const MARK: u32 = 3;
-
 // The numbers of an entry, and of the room for all of them.
 pub const ROW_SIZE: usize = 3;
 
 pub const ROWS_SIZE: usize = MOST_ENTRIES * ROW_SIZE;
 
 // What is shown before the kept masks: the result and the least cost.
+pub const RESULT: usize = 0;
+
+pub const LEAST: usize = 1;
+
 pub const SHOWN: usize = 2;
 
-// Where both counts stand in what is held, where the spare zeros begin, the entries, and the opening.
+// Where the four sizes and both counts stand in what is held, where the spare zeros begin, the entries, and the opening.
+pub const PLACES: usize = 0;
+
+pub const STATES: usize = 1;
+
+pub const VALUES: usize = 2;
+
+pub const START: usize = 3;
+
 pub const DECISIONS: usize = 4;
 
 pub const MARKS: usize = 5;

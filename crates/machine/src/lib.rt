@@ -2,8 +2,8 @@
 #![tactic(auto)]
 
 ghost use Rattle.std.specs.Prelude.{◌≡◌};
-ghost use Rattle.rules.specs.Checks.{handed};
-ghost use Rattle.rules.specs.Answers.{number_of};
+ghost use Rattle.rules.specs.Checks.{handed_in};
+ghost use Rattle.rules.specs.Answers.{answer_of};
 ghost use Rattle.ledger.specs.Readiness.{readiness, ready_of, left, renewed_of};
 
 mod held;
@@ -15,45 +15,33 @@ mod replay;
 pub mod rows;
 mod shown;
 
-use rules::{Answer, Size};
+use rules::{Answer, RuleSet};
 
-// Whether the memory is ready for a call: Done, or the refusal by 1, 2, 3 or 12.
+// Whether the memory is ready for a call, or the refusal by 1, 2, 3 or 12.
 pub fn ready(
     places: usize,
-    size: Size,
-    targets: &[u8],
-    costs: &[u16],
-    accepting: u64,
+    rules: &RuleSet<'_>,
     memory: &[u32],
     work: &mut [u32],
-) -> Answer
-    ensures { readiness (number_of result) work.new ≡ ready_of (handed places size.states size.values size.start.0 targets.now costs.now accepting) memory.now work.old }
+) -> Result<(), Answer>
+    ensures { readiness (answer_of result) work.new ≡ ready_of (handed_in places rules.now) memory.now work.old }
 {
-    let checked = lent::lent_right(places, size, targets, costs, accepting, memory, work);
-    if checked.number() != 0 {
-        return checked;
+    lent::lent_right(places, rules, memory, work)?;
+    if !refresh::shown_right(places, rules, memory, work) {
+        return Err(Answer::WrongMemory);
     }
-    if !refresh::shown_right(places, size, targets, costs, accepting, memory, work) {
-        return Answer::WrongMemory;
-    }
-    Answer::Done
+    Ok(())
 }
 
 // Shows what a filter tells of what is held, and answers by it; what was shown before plays no part.
 pub fn renew(
     places: usize,
-    size: Size,
-    targets: &[u8],
-    costs: &[u16],
-    accepting: u64,
+    rules: &RuleSet<'_>,
     memory: &mut [u32],
     work: &mut [u32],
-) -> Answer
-    ensures { left (number_of result) memory.new work.new ≡ renewed_of (handed places size.states size.values size.start.0 targets.now costs.now accepting) memory.old work.old }
+) -> Result<(), Answer>
+    ensures { left (answer_of result) memory.new work.new ≡ renewed_of (handed_in places rules.now) memory.old work.old }
 {
-    let answer = lent::lent_right(places, size, targets, costs, accepting, memory, work);
-    if answer.number() != 0 {
-        return answer;
-    }
-    refresh::show_held(places, size, targets, costs, accepting, memory, work)
+    lent::lent_right(places, rules, memory, work)?;
+    refresh::show_held(places, rules, memory, work)
 }

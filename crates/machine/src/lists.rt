@@ -4,44 +4,33 @@ ghost use Rattle.ledger.specs.Memory.{all_below};
 ghost use Rattle.machine.specs.Copied.{copied};
 
 // Whether every number is below the bound.
+#[tactic(auto, unfolding(ledger::specs::Memory::all_below))]
 pub(crate) fn all_below(s: &[u32], bound: u32) -> bool
     ensures { result ≡ all_below bound s.now }
 {
-    let mut i: usize = 0;
-    while i < s.len() {
-        if s[i] >= bound {
-            return false;
-        }
-        i += 1;
-    }
-    true
+    s.iter().all(|x| *x < bound)
 }
 
 // One list over another of the same length.
+#[tactic(auto, unfolding(crate::specs::Copied::copied))]
 pub fn copy(to: &mut [u32], from: &[u32])
     ensures { to.new ≡ copied to.old from.now }
 {
     if to.len() != from.len() {
         return;
     }
-    let mut k: usize = 0;
-    while k < from.len() {
-        to[k] = from[k];
-        k += 1;
-    }
+    to.copy_from_slice(from);
 }
 
-// Masks over as many numbers.
+// Masks over as many numbers. By index, since a proof follows no writes through iter_mut under zip.
 pub fn widen(to: &mut [u32], from: &[u16])
     ensures { to.new ≡ copied to.old from.now }
 {
     if to.len() != from.len() {
         return;
     }
-    let mut j: usize = 0;
-    while j < from.len() {
-        to[j] = from[j] as u32;
-        j += 1;
+    for j in 0..from.len() {
+        to[j] = u32::from(from[j]);
     }
 }
 
@@ -50,9 +39,7 @@ pub(crate) fn narrow(to: &mut [u16], from: &[u32])
     requires { (length to.old ≡ length from.now) × (all_below 65536 from.now ≡ true) }
     ensures { to.new ≡ from.now }
 {
-    let mut i: usize = 0;
-    while i < from.len() {
+    for i in 0..from.len() {
         to[i] = from[i] as u16;
-        i += 1;
     }
 }

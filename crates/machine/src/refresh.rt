@@ -1,75 +1,63 @@
 // A filter of what is held: compared with what is shown, or shown.
 ghost use Rattle.std.specs.Prelude.{◌≡◌, length};
-ghost use Rattle.rules.specs.Checks.{handed};
-ghost use Rattle.rules.specs.Answers.{number_of};
-ghost use Rattle.ledger.specs.Readiness.{left, renewed_by, Lent};
-ghost use Rattle.ledger.specs.Memory.{held_in, verdict_held, Held};
-ghost use Rattle.machine.specs.Inner.{Compared};
+ghost use Rattle.rules.specs.Checks.{handed_in};
+ghost use Rattle.rules.specs.Answers.{answer_of, carried};
+ghost use Rattle.ledger.specs.Readiness.{left, renewed_by};
+ghost use Rattle.ledger.specs.Memory.{held_in, verdict_held};
+ghost use Rattle.machine.specs.Inner.{Compared, Filterable};
 ghost use Rattle.filter.specs.Filter.{left as filtered, filter_done};
 
 use crate::{replay, shown};
-use filter::Filtered;
-use rules::{Answer, Size, bounds};
+use rules::{Answer, RuleSet, bounds};
 
 // The filter of what is held.
 fn refresh(
     places: usize,
-    size: Size,
-    targets: &[u8],
-    costs: &[u16],
-    accepting: u64,
+    rules: &RuleSet<'_>,
     memory: &[u32],
     kept: &mut [u16],
     work: &mut [u32],
-) -> Filtered
-    requires { Lent (handed places size.states size.values size.start.0 targets.now costs.now accepting) work.old × Held places size.states size.values size.start.0 (held_in places memory.now) × (length kept.old ≡ places) }
-    ensures { filtered (number_of result.answer) result.least kept.new work.new ≡ filter_done (verdict_held (handed places size.states size.values size.start.0 targets.now costs.now accepting) (held_in places memory.now)) work.old }
+) -> Result<u32, Answer>
+    requires { Filterable (handed_in places rules.now) memory.now work.old × (length kept.old ≡ places) }
+    ensures { filtered (answer_of result) (carried result) kept.new work.new ≡ filter_done (verdict_held (handed_in places rules.now) (held_in places memory.now)) work.old }
 {
     let mut masks_room = [0u16; bounds::MOST_PLACES];
     let mut limits_room = [0u32; bounds::MOST_PLACES];
     let masks = &mut masks_room[..places];
     let limits = &mut limits_room[..places];
     replay::come_to(places, memory, masks, limits);
-    filter::filter(
-        places, size, targets, costs, accepting, masks, limits, kept, work,
-    )
+    filter::filter(places, rules, masks, limits, kept, work)
 }
 
 // Whether what is shown is the filter of what is held.
 pub(crate) fn shown_right(
     places: usize,
-    size: Size,
-    targets: &[u8],
-    costs: &[u16],
-    accepting: u64,
+    rules: &RuleSet<'_>,
     memory: &[u32],
     work: &mut [u32],
 ) -> bool
-    requires { Lent (handed places size.states size.values size.start.0 targets.now costs.now accepting) work.old × Held places size.states size.values size.start.0 (held_in places memory.now) }
-    ensures { Compared (handed places size.states size.values size.start.0 targets.now costs.now accepting) memory.now work.old result work.new }
+    requires { Filterable (handed_in places rules.now) memory.now work.old }
+    ensures { Compared (handed_in places rules.now) memory.now work.old result work.new }
 {
     let mut room = [0u16; bounds::MOST_PLACES];
     let kept = &mut room[..places];
-    let fresh = refresh(places, size, targets, costs, accepting, memory, kept, work);
+    let fresh = refresh(places, rules, memory, kept, work);
     shown::same_shown(fresh, kept, memory)
 }
 
 // Shows the filter of what is held, and answers by it.
 pub(crate) fn show_held(
     places: usize,
-    size: Size,
-    targets: &[u8],
-    costs: &[u16],
-    accepting: u64,
+    rules: &RuleSet<'_>,
     memory: &mut [u32],
     work: &mut [u32],
-) -> Answer
-    requires { Lent (handed places size.states size.values size.start.0 targets.now costs.now accepting) work.old × Held places size.states size.values size.start.0 (held_in places memory.old) }
-    ensures { left (number_of result) memory.new work.new ≡ renewed_by (handed places size.states size.values size.start.0 targets.now costs.now accepting) (held_in places memory.old) work.old }
+) -> Result<(), Answer>
+    requires { Filterable (handed_in places rules.now) memory.old work.old }
+    ensures { left (answer_of result) memory.new work.new ≡ renewed_by (handed_in places rules.now) (held_in places memory.old) work.old }
 {
     let mut room = [0u16; bounds::MOST_PLACES];
     let kept = &mut room[..places];
-    let fresh = refresh(places, size, targets, costs, accepting, memory, kept, work);
+    let fresh = refresh(places, rules, memory, kept, work);
     shown::show(fresh, kept, memory);
-    fresh.answer
+    fresh.map(|_| ())
 }

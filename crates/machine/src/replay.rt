@@ -6,21 +6,25 @@ ghost use Rattle.ledger.specs.Layout.{most_entries, rows_size};
 ghost use Rattle.ledger.specs.Memory.{entry_of, entries_at, entries_of, opening_at, opening_of, all_below, held_in};
 ghost use Rattle.machine.specs.Inner.{RowSafe, RowsSafe, Replayable};
 
+use crate::rows::{Kind, NoKind, Row};
 use crate::{layout, lists};
 use kinds::Mask;
-use rules::numbers::lesser;
 
-// One entry applied: the meet of both masks, or the smaller of both limits.
-fn apply_row(kind: u32, place: usize, amount: u32, masks: &mut [u16], limits: &mut [u32])
-    requires { RowSafe kind place amount (length masks.old) (length limits.old) }
-    ensures { places_of masks.new limits.new ≡ decides (places_of masks.old limits.old) (standing (entry_of kind place amount ∷ [])) }
+// One entry applied: the meet of both masks, or the smaller of both limits; a mark changes nothing.
+fn apply(row: Row, masks: &mut [u16], limits: &mut [u32])
+    requires { RowSafe row.kind row.place row.amount (length masks.old) (length limits.old) }
+    ensures { places_of masks.new limits.new ≡ decides (places_of masks.old limits.old) (standing (entry_of row.kind row.place row.amount ∷ [])) }
 {
-    if kind == layout::KEEP {
-        masks[place] = Mask(masks[place]).meet(Mask(amount as u16)).0;
-        return;
-    }
-    if kind == layout::LIMIT {
-        limits[place] = lesser(limits[place], amount);
+    let place = row.place as usize;
+    match Kind::try_from(row.kind) {
+        Ok(Kind::Keep) => {
+            masks[place] = Mask(masks[place]).meet(Mask(row.amount as u16)).0;
+        }
+        Ok(Kind::Limit) => {
+            limits[place] = limits[place].min(row.amount);
+        }
+        Ok(Kind::Mark) => {}
+        Err(NoKind) => {}
     }
 }
 
@@ -29,11 +33,8 @@ fn replay(count: usize, rows: &[u32], masks: &mut [u16], limits: &mut [u32])
     requires { (count ≤ most_entries) × (length rows.now ≡ rows_size) × RowsSafe count rows.now (length masks.old) (length limits.old) }
     ensures { places_of masks.new limits.new ≡ decides (places_of masks.old limits.old) (standing (entries_at count rows.now)) }
 {
-    let mut i: usize = 0;
-    while i < count {
-        let at = i * layout::ROW_SIZE;
-        apply_row(rows[at], rows[at + 1] as usize, rows[at + 2], masks, limits);
-        i += 1;
+    for i in 0..count {
+        apply(Row::at(i, rows), masks, limits);
     }
 }
 

@@ -1,34 +1,79 @@
-// The rows of the entries: tested and counted.
-ghost use Rattle.std.specs.Prelude.{◌≡◌, ℕ, ◌≤◌, length};
+// The rows of the entries: read, tested and counted.
+ghost use Rattle.std.specs.Prelude.{◌≡◌, ℕ, ◌+◌, ◌*◌, ◌≤◌, ◌<◌, cond, length, get_or};
 ghost use Rattle.meaning.specs.Bounds.{most_values};
 ghost use Rattle.ledger.specs.Sessions.{is_mark, marks};
-ghost use Rattle.ledger.specs.Layout.{most_entries, rows_size};
+ghost use Rattle.ledger.specs.Layout.{most_entries, row_size, rows_size};
 ghost use Rattle.ledger.specs.Memory.{row_right, rows_right, entry_of, entries_at};
+ghost use Rattle.machine.specs.Kinds.{IsKindOf};
 
 use crate::layout;
 use kinds::Mask;
 
-// Whether an entry's three numbers are in range.
-pub(crate) fn row_right(places: usize, values: usize, kind: u32, place: u32, amount: u32) -> bool
-    requires { values ≤ most_values }
-    ensures { result ≡ row_right places values kind place amount }
-{
-    if kind == layout::KEEP {
-        if (place as usize) >= places {
-            return false;
+// The kinds of an entry, with their numbers in memory.
+#[derive(Clone, Copy, PartialEq, Eq)]
+pub enum Kind {
+    Keep = 1,
+    Limit = 2,
+    Mark = 3,
+}
+
+// Of a number that stands for no kind.
+#[derive(Clone, Copy)]
+pub struct NoKind;
+
+impl TryFrom<u32> for Kind {
+    type Error = NoKind;
+
+    ghost try_from_gives = { IsKindOf };
+
+    fn try_from(number: u32) -> Result<Kind, NoKind> {
+        match number {
+            1 => Ok(Kind::Keep),
+            2 => Ok(Kind::Limit),
+            3 => Ok(Kind::Mark),
+            _ => Err(NoKind),
         }
-        return amount < Mask::bound(values);
     }
-    if kind == layout::LIMIT {
-        return (place as usize) < places;
+}
+
+// An entry as memory holds it, in or out of range.
+#[derive(Clone, Copy)]
+pub struct Row {
+    pub kind: u32,
+    pub place: u32,
+    pub amount: u32,
+}
+
+impl Row {
+    // The row of entry i.
+    pub(crate) fn at(i: usize, rows: &[u32]) -> Row
+        requires { (i < most_entries) × (length rows.now ≡ rows_size) }
+        ensures kind { result.kind ≡ get_or rows.now (i * row_size) 0 }
+        ensures place { result.place ≡ get_or rows.now (i * row_size + 1) 0 }
+        ensures amount { result.amount ≡ get_or rows.now (i * row_size + 2) 0 }
+    {
+        let at = i * layout::ROW_SIZE;
+        Row {
+            kind: rows[at],
+            place: rows[at + 1],
+            amount: rows[at + 2],
+        }
     }
-    if kind != layout::MARK {
-        return false;
+
+    // Whether the three numbers are in range.
+    #[tactic(auto, using(crate::proofs::Ranges::few_bound), unfolding(ledger::specs::Memory::row_right))]
+    pub(crate) fn right(self, places: usize, values: usize) -> bool
+        requires { values ≤ most_values }
+        ensures { result ≡ row_right places values self.kind self.place self.amount }
+    {
+        let inside = (self.place as usize) < places;
+        match Kind::try_from(self.kind) {
+            Ok(Kind::Keep) => inside && self.amount < Mask::bound(values),
+            Ok(Kind::Limit) => inside,
+            Ok(Kind::Mark) => self.place == 0 && self.amount == 0,
+            Err(NoKind) => false,
+        }
     }
-    if place != 0 {
-        return false;
-    }
-    amount == 0
 }
 
 // Whether the first entries are in range.
@@ -36,25 +81,23 @@ pub(crate) fn rows_right(places: usize, values: usize, count: usize, rows: &[u32
     requires { (values ≤ most_values) × (count ≤ most_entries) × (length rows.now ≡ rows_size) }
     ensures { result ≡ rows_right places values count rows.now }
 {
-    let mut i: usize = 0;
-    while i < count {
-        let at = i * layout::ROW_SIZE;
-        if !row_right(places, values, rows[at], rows[at + 1], rows[at + 2]) {
+    for i in 0..count {
+        if !Row::at(i, rows).right(places, values) {
             return false;
         }
-        i += 1;
     }
     true
 }
 
-// 1 for a mark, 0 for a decision.
-pub fn mark_of(kind: u32) -> u32
-    ensures { (p x : ℕ) → result ≡ is_mark (entry_of kind p x) }
+// Whether an entry of this kind is a mark: what decides nothing is one.
+pub fn is_mark(kind: u32) -> bool
+    ensures { (p x : ℕ) → cond result 1 0 ≡ is_mark (entry_of kind p x) }
 {
-    match kind {
-        layout::KEEP => 0,
-        layout::LIMIT => 0,
-        _ => 1,
+    match Kind::try_from(kind) {
+        Ok(Kind::Keep) => false,
+        Ok(Kind::Limit) => false,
+        Ok(Kind::Mark) => true,
+        Err(NoKind) => true,
     }
 }
 
@@ -63,11 +106,9 @@ pub(crate) fn marks_among(count: usize, rows: &[u32]) -> u32
     requires { (count ≤ most_entries) × (length rows.now ≡ rows_size) }
     ensures { result ≡ marks (entries_at count rows.now) }
 {
-    let mut i: usize = 0;
     let mut found: u32 = 0;
-    while i < count {
-        found += mark_of(rows[i * layout::ROW_SIZE]);
-        i += 1;
+    for i in 0..count {
+        found += u32::from(is_mark(rows[i * layout::ROW_SIZE]));
     }
     found
 }

@@ -1,12 +1,12 @@
 -- The whole planner: the table with the fewest changes, and the walk.
 use mathlib.Core.Path.{◌≡◌, refl, sym, ◌∙◌}
-use mathlib.Core.Logic.{◌⊎◌, inl, inr}
 use mathlib.Core.List.{List}
 use mathlib.Core.List.{Memᴰ as In}
 use Prim.Native.Nat.{ℕ, suc, ◌-◌, ◌≤◌, ◌<◌, min}
 use native.Mathlib.Omega.{arith}
 use native.Mathlib.Decide.{dec_lt}
 use lib.ListN.{length, length-take}
+use Rattle.std.specs.Prelude.{None, Some}
 use Rattle.meaning.specs.Meaning.{arcs_of, rules_of, places, rosters}
 use Rattle.meaning.specs.Bounds.{top}
 use Rattle.meaning.proofs.Members.{roster_in, length_places}
@@ -62,14 +62,16 @@ module _ {qs vs : ℕ} {t c ms ls ds : List ℕ} {k : ℕ} {work : List ℕ} (si
         go (no l) = omega arith
 
     -- the roster was walked, or there is none and the slice is as it was
-    pub mends : {was is cleared : List ℕ} → ((made ≤ k) × Walks qs vs t c start spent ms ds mid made is) ⊎ ((k < made) × (is ≡ was)) → cleared ≡ zeros mid → length mid ≡ length work
-        → Mends (rosters (rules_of qs vs t c accepting) start spent (places ms ls)) ds k was is work cleared made
-    unfolding fewer
-    mends (inl w) e l =
-        let y = mended_first ds k (rosters (rules_of qs vs t c accepting) start spent (places ms ls)) made w.0 enough (w.1.first nears.net ls accepting (min made k) (omega (arith, w.0)) meant) in
-        record { some = λ h. (y.0, sym y.1); none = λ h. absurd (omega (arith, w.0)); clear = e ∙ rw l }
-    mends (inr w) e l = record {
-      some = λ h. absurd (omega (arith, w.0));
-      none = λ h. (mended_none ds k (rosters (rules_of qs vs t c accepting) start spent (places ms ls)) (λ z m d. omega (arith, enough z m)), w.1);
-      clear = e ∙ rw l;
-    }
+    module _ {was is cleared : List ℕ} (wiped : cleared ≡ zeros mid) (same : length mid ≡ length work) where
+      pub mends_some : made ≤ k → Walks (arcs_of qs vs t c) start spent ms ds mid made is
+          → Mends (rosters (rules_of qs vs t c accepting) start spent (places ms ls)) ds k was is work cleared (Some made)
+      unfolding fewer
+      mends_some h w =
+          let y = mended_first ds k (rosters (rules_of qs vs t c accepting) start spent (places ms ls)) made h enough (w.first nears.net ls accepting (min made k) (omega arith) meant) in
+          record { roster = (h, y.0, sym y.1); clear = wiped ∙ rw same }
+
+      pub mends_none : k < made → is ≡ was → Mends (rosters (rules_of qs vs t c accepting) start spent (places ms ls)) ds k was is work cleared None
+      mends_none h e = record {
+        roster = (mended_none ds k (rosters (rules_of qs vs t c accepting) start spent (places ms ls)) (λ z m d. omega (arith, enough z m)), e);
+        clear = wiped ∙ rw same;
+      }

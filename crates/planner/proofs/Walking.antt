@@ -24,7 +24,7 @@ use Rattle.rooms.specs.Changes.{near_room, near_layer}
 use Rattle.rooms.proofs.Layering.{needed_rooms, drop_places, drop_all}
 use Rattle.rooms.proofs.Nearing.{near_zero}
 use Rattle.mending.specs.Mending.{differs, changes}
-use Rattle.planner.specs.Inner.{fewer, room_at, takeable, Meant}
+use Rattle.planner.specs.Inner.{fewer, room_at, takeable, Tried, Meant}
 use Rattle.planner.proofs.Ways.{near_way, Way, way_in}
 use Rattle.planner.proofs.Going.{fewer_goes, fewer_stuck}
 
@@ -54,10 +54,7 @@ module _ {a : Arcs} {net : Net} {ds ms work ls : List ℕ} {accepting k : ℕ} (
   as_long : (i : ℕ) → length (drop i ds) ≡ length (drop i (places ms ls))
   as_long i = simp length-drop (omega (arith, m.drawn, m.limits, length_places ms ls (sym m.limits)))
 
--- values tried one after the other: no value below v can be taken
-pub record Tried (a : Arcs) (work : List ℕ) (i m d q s g v : ℕ) : Type 0 where
-  pub none : (u : ℕ) → u < v → takeable a work i m d q s g u ≡ false
-
+-- values tried one after the other
 module _ (a : Arcs) (work : List ℕ) (i m d q s g : ℕ) where
   pub tried_none : Tried a work i m d q s g 0
   tried_none = record { none = λ u h. absurd (omega arith) }
@@ -127,17 +124,17 @@ module _ (a : Arcs) (start spent : ℕ) (ms ds work : List ℕ) (most : ℕ) whe
         (λ z. sym (append_assoc (take i is) (v ∷ []) z)))
 
     -- one place on, by the smallest value that can be taken
-    pub walking_more : v < a.values → {b : Bool} → b ≡ takeable a work (i + 1) (get_or ms i 0) (get_or ds i 0) q s (suc left) v → b ≡ true
+    pub walking_more : v < a.values → takeable a work (i + 1) (get_or ms i 0) (get_or ds i 0) q s (suc left) v ≡ true
         → {at x : ℕ} → at ≡ q * a.values + v → x ≡ differs v (get_or ds i 0)
         → Walking a start spent ms ds work most (set is i v) (get_or a.targets at 0) (s + get_or a.costs at 0) (left - x) (i + 1)
-    walking_more hv e y {at} {x} ea ex =
-        let z = takes_room a work (i + 1) (get_or ms i 0) (get_or ds i 0) q s left v (sym e ∙ y) in
+    walking_more hv y {at} {x} ea ex =
+        let z = takes_room a work (i + 1) (get_or ms i 0) (get_or ds i 0) q s left v y in
         rw (ea, ex) (record {
-          state = takes_state a work (i + 1) (get_or ms i 0) (get_or ds i 0) q s left v (sym e ∙ y);
+          state = takes_state a work (i + 1) (get_or ms i 0) (get_or ds i 0) q s left v y;
           few = omega (arith, w.few);
           low = omega (arith, z.0);
           room = z.0;
-          first = λ net ls accepting k hk m. w.first net ls accepting k hk m ∙ onward hv (sym e ∙ y) z.1 net ls accepting k hk m;
+          first = λ net ls accepting k hk m. w.first net ls accepting k hk m ∙ onward hv y z.1 net ls accepting k hk m;
         })
 
     -- some value can be taken
@@ -174,18 +171,18 @@ module _ (a : Arcs) (work : List ℕ) (i m d q s left v : ℕ) where
     no_arc_lem h = rw (has, ← arc, le-ltb (get_or a.targets at 0) a.states h)
 
     module _ (leads : get_or a.targets at 0 < a.states) {x : ℕ} (change : x ≡ differs v d) where
-      pub no_change : left + 1 - x ≡ 0 → false ≡ takeable a work i m d q s (suc left) v
+      pub no_change : (x ≤ left → ⊥) → false ≡ takeable a work i m d q s (suc left) v
       unfolding takeable
       no_change h =
           let z : suc left - differs v d ≡ 0 = omega arith in
           let y : ltb (s + get_or a.costs at 0) 0 ≡ false = le-ltb (s + get_or a.costs at 0) 0 (omega arith) in
           rw (has, ← arc, lt-ltb (get_or a.targets at 0) a.states leads, z, y)
 
-      pub takes_at : (left + 1 - x ≡ 0 → ⊥) → {y : ℕ} → y ≡ room_at work i (suc (left + 1 - x - 1)) (get_or a.targets at 0)
+      pub takes_at : x ≤ left → {g : ℕ} → g ≡ left - x → {y : ℕ} → y ≡ room_at work i (suc g) (get_or a.targets at 0)
           → ltb (s + get_or a.costs at 0) y ≡ takeable a work i m d q s (suc left) v
       unfolding takeable
-      takes_at h e =
-          let z : suc left - differs v d ≡ suc (left + 1 - x - 1) = omega arith in
+      takes_at h {g} f e =
+          let z : suc left - differs v d ≡ suc g = omega arith in
           rw (has, ← arc, lt-ltb (get_or a.targets at 0) a.states leads, z, e)
 
 -- where an arc stands is in the tables

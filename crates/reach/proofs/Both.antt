@@ -1,6 +1,7 @@
 -- The two passes together.
 use mathlib.Core.Path.{◌≡◌, refl, sym, ◌∙◌}
 use mathlib.Core.Bool.{Bool, false, false≢true}
+use Rattle.std.proofs.Common.{Option, None}
 use mathlib.Core.List.{List}
 use Prim.Native.Nat.{ℕ, ◌≤◌, ◌<◌}
 use native.Mathlib.Omega.{arith}
@@ -37,13 +38,13 @@ ready_turned {qs} {vs} {t = t} {c} {into = into} s cheap p a b v r none l y e = 
     long : length into ≡ table_size
     long = sym l ∙ e
 
-pub filters_is : {qs vs start spent accepting least : ℕ} {t c ms ls ts cs arcs to fee arcs' work mid is out : List ℕ} → length ls ≡ length ms
+pub filters_is : {qs vs start spent accepting : ℕ} {least : Option ℕ} {t c ms ls ts cs arcs to fee arcs' work mid is out : List ℕ} → length ls ≡ length ms
     → Prepared qs vs t c accepting ms ls ts cs arcs work to fee arcs' mid → Tells (turned to fee) qs vs start spent ms mid out least
     → length mid ≡ length work → is ≡ zeros mid
     → Filters (rules_of qs vs t c accepting) start spent (places ms ls) work is out least
 filters_is {qs} {vs} {accepting = accepting} {t = t} {c} {ms} {ls} {to} {fee} {mid = mid} e p y h k =
     let m : Meant (turned to fee) qs vs ms mid t c ls accepting = record { limits = e; arcs = p.turns; rooms = p.rooms } in
-    record { most = y.most; some = λ l. y.some t c ls accepting m l; none = λ l. y.none t c ls accepting m l; cleared = k ∙ rw h }
+    record { most = y.most; right = y.right t c ls accepting m; cleared = k ∙ rw h }
 
 -- what is lent is in order, or not
 pub order_not : {qs start spent count out : ℕ} → (start < qs → spent ≤ top → ⊥) → Order qs start spent count out false
@@ -54,11 +55,10 @@ order_last h k = record { right = λ e. (h, k, eqb-true _ _ e); wrong = λ e a b
 
 -- a whole pass that stays, and one that is made
 pub filter_runs_not : {qs vs accepting start spent : ℕ} {t c ms ls kept work is : List ℕ} → is ≡ work
-    → (Sizes qs vs t c ms ls work → start < qs → spent ≤ top → length kept ≡ length ms → ⊥) → FilterRuns qs vs t c accepting start spent ms ls kept work kept is 366001
-unfolding top
+    → (Sizes qs vs t c ms ls work → start < qs → spent ≤ top → length kept ≡ length ms → ⊥) → FilterRuns qs vs t c accepting start spent ms ls kept work kept is None
 filter_runs_not e h = record { right = λ s a b d. absurd (h s a b d); wrong = λ k. (refl, refl, e) }
 
-pub filter_runs_is : {qs vs accepting start spent least : ℕ} {t c ms ls kept work out is : List ℕ} → Sizes qs vs t c ms ls work → (start < qs) × (spent ≤ top) × (length kept ≡ length ms)
+pub filter_runs_is : {qs vs accepting start spent : ℕ} {least : Option ℕ} {t c ms ls kept work out is : List ℕ} → Sizes qs vs t c ms ls work → (start < qs) × (spent ≤ top) × (length kept ≡ length ms)
     → Filters (rules_of qs vs t c accepting) start spent (places ms ls) work is out least → FilterRuns qs vs t c accepting start spent ms ls kept work out is least
 filter_runs_is s o f = record { right = λ x a b d. f; wrong = λ h. absurd (h s o.0 o.1 o.2) }
 

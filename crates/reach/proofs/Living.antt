@@ -16,7 +16,7 @@ use Rattle.kinds.proofs.Bits.{bit_of_and, bit_below, bit_none, bit_mask, mask_lt
 use Rattle.kinds.proofs.Lowest.{low_set, Sought, sought_more}
 use Rattle.meaning.specs.Bounds.{top}
 use Rattle.rooms.specs.Tables.{down, Net, rooms_by, Low}
-use Rattle.reach.specs.Looks.{leads_on, joins, live_of, LiveHeld, LowRows}
+use Rattle.reach.specs.Looks.{leads_on, joins, live_of, LowRows}
 use Rattle.rooms.proofs.Filling.{row_part}
 
 module _ (front : List ℕ) where
@@ -34,9 +34,6 @@ module _ (front : List ℕ) where
 
   pub live_end : (q n m : ℕ) → q ≤ n → n ≤ q → m ≡ live_of q front → m ≡ live_of n front
   live_end q n m h k e = let d : q ≡ n = omega arith in rw d at e
-
-  pub held_none : (n live : ℕ) → live ≡ 0 → LiveHeld n front live
-  held_none n live e = record { is = λ h. absurd (omega arith) }
 
 -- from live state to live state: those of `left` are still to be looked at, and no other state joins
 module _ (a : Net) (front needs : List ℕ) (v n : ℕ) where

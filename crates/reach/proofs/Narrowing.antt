@@ -7,7 +7,6 @@ use native.Mathlib.Omega.{arith}
 use lib.Bits.{bit_and}
 use lib.Dec.{eqb}
 use lib.ListN.{length, get_or, set, take, length-set}
-use lib.Seq.{ext_get_or}
 use Rattle.kinds.specs.Bits.{width, bit, mask_of}
 use Rattle.kinds.proofs.Bits.{bit_mask, mask_lt, meet_mask}
 use Rattle.meaning.specs.Meaning.{Rules, rules_of, places, rosters, has, first, Keep}
@@ -16,7 +15,7 @@ use Rattle.meaning.proofs.Members.{Below, below_at, roster_in, length_places}
 use Rattle.meaning.proofs.Decisions.{keep_stored}
 use Rattle.meaning.proofs.Lists.{those_same}
 use Rattle.rules.specs.Answers.{zeros}
-use Rattle.rooms.specs.Tables.{Filled, turned, Sizes, Prepared}
+use Rattle.rooms.specs.Tables.{turned, Sizes, Prepared}
 use Rattle.reach.specs.Looks.{Meant, Walks}
 use Rattle.reach.specs.Whole.{Finds}
 
@@ -45,10 +44,9 @@ first_alone r q c i v ms ls few e h =
         ∙ (bit_mask (λ u. eqb u v) width (get_or w i 0) (omega (arith, below_at r.arcs.values i w b l)) ∙ sym (has_get_d i v w l))
 
 -- the masks copied, and one narrowed
-pub narrowed_is : (ms own was : List ℕ) (i n v x y : ℕ) → length own ≡ length ms → n ≤ length ms → length ms ≤ n → Filled (λ k. get_or ms k 0) n was own
-    → get_or ms i 0 < 2 ^ width → y ≡ mask_of (λ u. eqb u v) width → x ≡ mask_of (λ u. bit (get_or ms i 0) u && bit y u) width → set own i x ≡ alone ms i v
-narrowed_is ms own was i n v x y e h k f l d g =
-    let o : own ≡ ms = ext_get_or 0 own ms e (λ j b. f.done j (omega arith)) in
+pub narrowed_is : (ms own : List ℕ) (i v x y : ℕ) → own ≡ ms → get_or ms i 0 < 2 ^ width → y ≡ mask_of (λ u. eqb u v) width → x ≡ mask_of (λ u. bit (get_or ms i 0) u && bit y u) width
+    → set own i x ≡ alone ms i v
+narrowed_is ms own i v x y o l d g =
     rw (o, g, d) (ap (λ (z : ℕ). set ms i z) (sym (meet_mask width (get_or ms i 0) (mask_of (λ u. eqb u v) width) l (mask_lt (λ u. eqb u v) width))))
 
 pub alone_long : (ms : List ℕ) (i x : ℕ) {own : List ℕ} → own ≡ set ms i x → length own ≡ length ms

@@ -1,6 +1,7 @@
 -- The forward pass, place by place, and what it tells in the end.
 use mathlib.Core.Path.{◌≡◌, refl, sym, ◌∙◌}
 use mathlib.Core.Bool.{Bool, true, false, cond, ◌&&◌, false≢true}
+use Rattle.std.proofs.Common.{Some, None}
 use mathlib.Core.List.{List}
 use Prim.Native.Nat.{ℕ, suc, ◌+◌, ◌*◌, ◌-◌, ◌^◌, ◌≤◌, ◌<◌}
 use native.Mathlib.Numerals.{add-one}
@@ -23,7 +24,6 @@ use Rattle.rooms.specs.Tables.{Filled, choices, Net, frame, layer, room, capped,
 use Rattle.reach.specs.Looks.{looks, lands, reach, marks, struck, lowest, Keeps, Spread, Blank, Opened, Stepped, Meant, Tells}
 use Rattle.rooms.proofs.Rooms.{choice_in}
 use Rattle.reach.proofs.Reach.{looks_in}
-use Rattle.reach.proofs.Sweeping.{lowest_most}
 use Rattle.rooms.proofs.Layering.{needed_rooms, drop_places, bare_fill}
 use Rattle.reach.proofs.Needing.{rooms_copied}
 use Rattle.reach.proofs.Front.{Front, front_opens, kept_is, front_goes}
@@ -186,24 +186,30 @@ module _ (a : Net) (qs vs spent : ℕ) (ms work first : List ℕ) (hs : spent �
                 (λ u k b. s.values u b ∙ marks_none a (rooms_by needs') (λ q. get_or front q 0) qs vs (get_or ms i 0) u k))
             go (no d) = get_or-set_other out i j x 0 d ∙ p.masks start h o t c ls accepting m j (omega arith)
 
-  pub passing_ends : (start i l : ℕ) (front needs onward out : List ℕ) → start < qs → Opened qs start spent (suc top - get_or work start 0) first → i ≤ length ms → length ms ≤ i
-      → length out ≡ length ms → Passing a qs vs spent ms work first front needs onward out i → l ≡ lowest front qs → Tells a qs vs start spent ms work out l
-  passing_ends start i l front needs onward out h o hi hj ho p e = record {
-    most = rw e (lowest_most front qs);
-    some = λ t c ls accepting m k. verdict_some (rules_of qs vs t c accepting) a m.arcs start spent (places ms ls) front (ends t c ls accepting m) out l (masks t c ls accepting m) e k;
-    none = λ t c ls accepting m k. verdict_none (rules_of qs vs t c accepting) a m.arcs start spent (places ms ls) front (ends t c ls accepting m) out l (masks t c ls accepting m) e k;
-  }
-    where
-      ends : (t c ls : List ℕ) (accepting : ℕ) → Meant a qs vs ms work t c ls accepting → Front (rules_of qs vs t c accepting) start spent (places ms ls) front (length (places ms ls)) a
-      ends t c ls accepting m =
-          let d : i ≡ length (places ms ls) = omega (arith, length_places ms ls (sym m.limits)) in
-          rw d at (p.reached start h o t c ls accepting m)
+  module _ (start i l : ℕ) (front needs onward out : List ℕ) (h : start < qs) (o : Opened qs start spent (suc top - get_or work start 0) first) (hi : i ≤ length ms) (hj : length ms ≤ i)
+      (ho : length out ≡ length ms) (p : Passing a qs vs spent ms work first front needs onward out i) (e : l ≡ lowest front qs) where
+    ends : (t c ls : List ℕ) (accepting : ℕ) → Meant a qs vs ms work t c ls accepting → Front (rules_of qs vs t c accepting) start spent (places ms ls) front (length (places ms ls)) a
+    ends t c ls accepting m =
+        let d : i ≡ length (places ms ls) = omega (arith, length_places ms ls (sym m.limits)) in
+        rw d at (p.reached start h o t c ls accepting m)
 
-      masks : (t c ls : List ℕ) (accepting : ℕ) → Meant a qs vs ms work t c ls accepting
-          → out ≡ kept vs (length (places ms ls)) (rosters (rules_of qs vs t c accepting) start spent (places ms ls))
-      masks t c ls accepting m =
-          let n = length_places ms ls (sym m.limits) in
-          ext_get_or 0 out (kept vs (length (places ms ls)) (rosters (rules_of qs vs t c accepting) start spent (places ms ls)))
-          (ho ∙ (sym n ∙ sym (kept_length vs (length (places ms ls)) (rosters (rules_of qs vs t c accepting) start spent (places ms ls)))))
-          (λ j k. p.masks start h o t c ls accepting m j (omega arith)
-          ∙ sym (kept_at_lem vs (length (places ms ls)) (rosters (rules_of qs vs t c accepting) start spent (places ms ls)) j (omega (arith, n))))
+    masks : (t c ls : List ℕ) (accepting : ℕ) → Meant a qs vs ms work t c ls accepting
+        → out ≡ kept vs (length (places ms ls)) (rosters (rules_of qs vs t c accepting) start spent (places ms ls))
+    masks t c ls accepting m =
+        let n = length_places ms ls (sym m.limits) in
+        ext_get_or 0 out (kept vs (length (places ms ls)) (rosters (rules_of qs vs t c accepting) start spent (places ms ls)))
+        (ho ∙ (sym n ∙ sym (kept_length vs (length (places ms ls)) (rosters (rules_of qs vs t c accepting) start spent (places ms ls)))))
+        (λ j k. p.masks start h o t c ls accepting m j (omega arith)
+        ∙ sym (kept_at_lem vs (length (places ms ls)) (rosters (rules_of qs vs t c accepting) start spent (places ms ls)) j (omega (arith, n))))
+
+    pub passing_some : l ≤ top → Tells a qs vs start spent ms work out (Some l)
+    passing_some k = record {
+      most = k;
+      right = λ t c ls accepting m. verdict_some (rules_of qs vs t c accepting) a m.arcs start spent (places ms ls) front (ends t c ls accepting m) out l (masks t c ls accepting m) e k;
+    }
+
+    pub passing_none : top < l → Tells a qs vs start spent ms work out None
+    passing_none k = record {
+      most = tt;
+      right = λ t c ls accepting m. verdict_none (rules_of qs vs t c accepting) a m.arcs start spent (places ms ls) front (ends t c ls accepting m) out l (masks t c ls accepting m) e k;
+    }

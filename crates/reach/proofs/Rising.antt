@@ -42,17 +42,14 @@ module _ (a : Net) where
 pub spread_low : {a : Net} {qs : ℕ} {vs front is : List ℕ} → Spread a qs vs front is → Low qs is
 spread_low {a} {qs} {vs} {front} s = record { low = λ k h. rw (s.right k h) (reach_low a (λ q. get_or front q 0) (suc top) k (looks qs vs)) }
 
--- a slot found or not, as the code finds it
-pub known_not : (n mask slot : ℕ) (front fronts held : List ℕ) → Known n mask slot 366002 front fronts held
-unfolding top
-known_not n mask slot front fronts held = record { some = λ e. absurd (omega arith); same = λ e. absurd (omega arith); row = λ e. absurd (omega arith) }
-
-pub known_is : {n mask slot rise : ℕ} {front fronts held : List ℕ} {b : Bool} → n ≤ 64 → (mask ≡ 0 → ⊥) → get_or held slot 0 ≡ mask
+-- a slot found, as the code finds it
+pub known_is : {n mask slot rise : ℕ} {front fronts held : List ℕ} {b : Bool} → n ≤ 64 → rise ≤ suc top → (mask ≡ 0 → ⊥) → get_or held slot 0 ≡ mask
     → Matches (λ k. min (suc top) (get_or (take (slot * 64 + 64 - slot * 64) (drop (slot * 64) fronts)) k 0 + rise)) n front b → b ≡ true → Known n mask slot rise front fronts held
-known_is {n} {mask} {slot} {rise} {front} {fronts} {held} h z e r d = record {
-  some = λ y. omega arith;
-  same = λ y. e;
-  row = λ y k l. r.is d k l ∙ ap (λ (x : ℕ). min (suc top) (x + rise)) (row_part fronts slot (slot * 64 + 64 - slot * 64) k (omega arith));
+known_is {n} {mask} {slot} {rise} {front} {fronts} {held} h u z e r d = record {
+  low = u;
+  some = omega arith;
+  same = e;
+  row = λ k l. r.is d k l ∙ ap (λ (x : ℕ). min (suc top) (x + rise)) (row_part fronts slot (slot * 64 + 64 - slot * 64) k (omega arith));
 }
 
 pub slot_low : {n slot : ℕ} {fronts held : List ℕ} → n ≤ 64 → slot < 8 → 0 < get_or held slot 0 → Lows n fronts held → Low n (take (slot * 64 + 64 - slot * 64) (drop (slot * 64) fronts))
@@ -81,14 +78,14 @@ module _ (a : Net) (qs vs : ℕ) where
 
   -- the least costs of a slot, with their rise
   pub spread_known : (slot m rise : ℕ) (front fronts onwards held was is : List ℕ) → qs ≤ 64 → slot < 8 → Past a qs vs fronts onwards held
-      → Known qs m slot rise front fronts held → rise ≤ suc top
+      → Known qs m slot rise front fronts held
       → Filled (λ k. min (suc top) (get_or (take (slot * 64 + 64 - slot * 64) (drop (slot * 64) onwards)) k 0 + rise)) qs was is → Spread a qs (choices vs m) front is
-  spread_known slot m rise front fronts onwards held was is h l p k e f = record {
+  spread_known slot m rise front fronts onwards held was is h l p k f = record {
     right = λ t ht. f.done t ht
-        ∙ (ap (λ (x : ℕ). min (suc top) (x + rise)) (row_part onwards slot (slot * 64 + 64 - slot * 64) t (omega arith) ∙ p.right slot t l (k.some e) ht)
+        ∙ (ap (λ (x : ℕ). min (suc top) (x + rise)) (row_part onwards slot (slot * 64 + 64 - slot * 64) t (omega arith) ∙ p.right slot t l k.some ht)
         ∙ (sym (reach_rises a (λ q. get_or fronts (slot * 64 + q) 0) (λ q. get_or front q 0) rise t (looks qs (choices vs (get_or held slot 0)))
-        (λ x i. k.row e x.state (looks_in qs (choices vs (get_or held slot 0)) i).0))
-        ∙ rw (k.same e)));
+        (λ x i. k.row x.state (looks_in qs (choices vs (get_or held slot 0)) i).0))
+        ∙ rw k.same));
   }
 
   pub spread_swept : (m : ℕ) {front was is : List ℕ} → Blank qs was → Swept a qs (choices vs m) front was is → Spread a qs (choices vs m) front is

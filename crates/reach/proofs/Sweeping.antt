@@ -1,6 +1,6 @@
 -- The looks of the forward pass: state by state along one value, then value by value.
 use mathlib.Core.Path.{◌≡◌, refl, sym, ap, ◌∙◌}
-use mathlib.Core.Bool.{Bool, true, false, cond, ◌&&◌, ◌||◌, or-false, or_comm}
+use mathlib.Core.Bool.{Bool, true, false, cond, not, ◌&&◌, ◌||◌, or-false, or_comm, false≢true}
 use mathlib.Core.List.{List, [], ◌∷◌}
 use Prim.Native.Nat.{ℕ, zero, suc, ◌+◌, ◌*◌, ◌^◌, ◌≤◌, ◌<◌, min}
 use native.Mathlib.Numerals.{add-one}
@@ -10,15 +10,33 @@ use lib.Dec.{ltb, eqb}
 use lib.ListN.{length, get_or, set, take, drop}
 use lib.Seq.{get_or-set_same, get_or-set_other}
 use borrow.Author.Tests.{eq-eqb, ne_eqb}
-use Rattle.kinds.specs.Bits.{width, bit, mask_of}
+use Rattle.kinds.specs.Bits.{width, bit, mask_of, smallest_of, rest_of}
 use Rattle.kinds.proofs.Bits.{bit_mask, bit_none, mask_is, mask_lt}
 use Rattle.meaning.specs.Bounds.{top}
 use Rattle.meaning.proofs.Lists.{in_any}
 use Rattle.rooms.specs.Tables.{down, Net, turned, rooms_by}
 use Rattle.reach.specs.Looks.{along, looks, reach, marks, arrive, joins, lowest, Pushed, Swept, Keeps}
+use Rattle.rooms.proofs.Choosing.{Picked, picked_few, Through}
 use Rattle.rooms.proofs.Rooms.{in_down}
 use Rattle.ranks.proofs.Parts.{part_at}
 use Rattle.reach.proofs.Reach.{reach_join, marks_join}
+
+-- the next value of a mask that is gone through, if there is one
+pub some_left : {m : ℕ} → true ≡ not (eqb m 0) → m ≡ 0 → ⊥
+some_left {m} h e = false≢true (sym (h ∙ ap not (eq-eqb m 0 e)))
+
+pub none_left : {m : ℕ} → false ≡ not (eqb m 0) → m ≡ 0
+none_left {m} h = go (ℕ_discrete m 0)
+  where
+    go : Dec (m ≡ 0) → m ≡ 0
+    go (yes e) = e
+    go (no d) = absurd (false≢true (h ∙ ap not (ne_eqb m 0 d)))
+
+pub next_picked : {D : List ℕ → Type 0} {m left v r : ℕ} → Through D m left → v ≡ smallest_of left → r ≡ rest_of left → Picked left v r
+next_picked t e d = record { few = t.few; smallest = e; rest = d }
+
+pub next_few : {D : List ℕ → Type 0} {m left v : ℕ} → Through D m left → v ≡ smallest_of left → true ≡ not (eqb left 0) → v < width
+next_few t e h = picked_few (next_picked t e refl) (some_left h)
 
 -- state by state: the least costs
 module _ (ts cs front : List ℕ) where

@@ -2,6 +2,7 @@
 -- Assumes nothing.
 use mathlib.Core.Path.{◌≡◌, refl, sym, ap, ◌∙◌}
 use mathlib.Core.Bool.{Bool, true, false}
+use Rattle.std.proofs.Common.{Option, Some, None}
 use mathlib.Core.List.{List, []}
 use Prim.Native.Nat.{ℕ, ◌≤◌, ◌<◌}
 use native.Mathlib.Omega.{arith}
@@ -14,27 +15,22 @@ use Rattle.rooms.proofs.Sizing.{sizes_right_lem}
 use Rattle.reach.specs.Whole.{Filters, Finds, FilterRuns, FirstRuns}
 
 -- the kept masks, the work table and the least cost
-filters_one : (r : Rules) (start spent : ℕ) (ps : List Place) (was w z a b : List ℕ) (x y : ℕ) → Filters r start spent ps was w a x → Filters r start spent ps was z b y
+filters_one : (r : Rules) (start spent : ℕ) (ps : List Place) (was w z a b : List ℕ) (x y : Option ℕ) → Filters r start spent ps was w a x → Filters r start spent ps was z b y
     → (x ≡ y) × (a ≡ b) × (w ≡ z)
-filters_one r start spent ps was w z a b x y f g =
-    let m = go (dec_lt top x) (dec_lt top y) in
-    (m.0, m.1, f.cleared ∙ sym g.cleared)
-  where
-    go : Dec (top < x) → Dec (top < y) → (x ≡ y) × (a ≡ b)
-    go (yes h) (yes k) =
-        let e : verdict 11 a 0 ≡ verdict 11 b 0 = f.none h ∙ sym (g.none k) in
-        (omega (arith, f.most, g.most), ap (λ (v : Verdict). v.masks) e)
-    go (no h) (no k) =
-        let e : verdict 0 a x ≡ verdict 0 b y = f.some (omega arith) ∙ sym (g.some (omega arith)) in
-        (ap (λ (v : Verdict). v.cheapest) e, ap (λ (v : Verdict). v.masks) e)
-    go (yes h) (no k) =
-        let e : verdict 11 a 0 ≡ verdict 0 b y = f.none h ∙ sym (g.some (omega arith)) in
-        let n : ◌≡◌ {A = ℕ} 11 0 = ap (λ (v : Verdict). v.answered) e in
-        absurd (omega arith)
-    go (no h) (yes k) =
-        let e : verdict 0 a x ≡ verdict 11 b 0 = f.some (omega arith) ∙ sym (g.none k) in
-        let n : ◌≡◌ {A = ℕ} 0 11 = ap (λ (v : Verdict). v.answered) e in
-        absurd (omega arith)
+filters_one r start spent ps was w z a b None None f g =
+    let e : verdict 11 a 0 ≡ verdict 11 b 0 = f.right ∙ sym g.right in
+    (refl, ap (λ (v : Verdict). v.masks) e, f.cleared ∙ sym g.cleared)
+filters_one r start spent ps was w z a b (Some x) (Some y) f g =
+    let e : verdict 0 a x ≡ verdict 0 b y = f.right ∙ sym g.right in
+    (ap (λ (v : Verdict). Some v.cheapest) e, ap (λ (v : Verdict). v.masks) e, f.cleared ∙ sym g.cleared)
+filters_one r start spent ps was w z a b None (Some y) f g =
+    let e : verdict 11 a 0 ≡ verdict 0 b y = f.right ∙ sym g.right in
+    let n : ◌≡◌ {A = ℕ} 11 0 = ap (λ (v : Verdict). v.answered) e in
+    absurd (omega arith)
+filters_one r start spent ps was w z a b (Some x) None f g =
+    let e : verdict 0 a x ≡ verdict 11 b 0 = f.right ∙ sym g.right in
+    let n : ◌≡◌ {A = ℕ} 0 11 = ap (λ (v : Verdict). v.answered) e in
+    absurd (omega arith)
 
 -- whether there is one, the roster and the work table
 finds_one : (ws : List (List ℕ)) (i v : ℕ) (was a b work w z : List ℕ) (f g : Bool) → Finds ws i v was a work w f → Finds ws i v was b work z g
@@ -62,7 +58,7 @@ module _ (qs vs : ℕ) (t c : List ℕ) (accepting start spent : ℕ) (ms ls out
       go (yes a) (yes b) (no d) e = no (λ h. d h.2)
       go (yes a) (yes b) (yes d) (no e) = no (λ h. e h.3)
 
-  pub filter_from_unique : (a b w z : List ℕ) (x y : ℕ) → FilterRuns qs vs t c accepting start spent ms ls out work a w x
+  pub filter_from_unique : (a b w z : List ℕ) (x y : Option ℕ) → FilterRuns qs vs t c accepting start spent ms ls out work a w x
       → FilterRuns qs vs t c accepting start spent ms ls out work b z y → (x ≡ y) × (a ≡ b) × (w ≡ z)
   filter_from_unique a b w z x y f g = go ordered
     where

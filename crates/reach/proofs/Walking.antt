@@ -8,10 +8,9 @@ use Prim.Native.Nat.{ℕ, suc, ◌+◌, ◌*◌, ◌-◌, ◌^◌, ◌≤◌, �
 use native.Mathlib.Numerals.{add-one}
 use native.Mathlib.Omega.{arith}
 use native.Mathlib.Decide.{dec_lt}
-use lib.Dec.{eqb}
 use lib.ListN.{length, get_or, set, take, drop}
 use lib.Seq.{take-suc-set, take_all}
-use borrow.Author.Tests.{ltb-true, eq-eqb, ne_eqb}
+use borrow.Author.Tests.{ltb-true}
 use Rattle.kinds.specs.Bits.{width, bit, smallest_of, rest_of}
 use Rattle.kinds.proofs.Bits.{bit_of_and}
 use Rattle.kinds.proofs.Lowest.{Sought, sought_more, smallest_is, smallest_least, smallest_some, smallest_set, rest_is, rest_few}
@@ -164,22 +163,21 @@ module _ (a : Net) (qs vs start spent : ℕ) (ms work was : List ℕ) where
           nil [] e = refl
           nil (x ∷ ws) e = let z : ◌≡◌ {A = ℕ} 0 1 = cc in absurd (omega arith)
 
-    pub walks_none : vs ≤ v → Walks a qs vs start spent ms work was is (eqb i (length ms))
+    pub walks_none : vs ≤ v → Walks a qs vs start spent ms work was is false
     walks_none hv = record {
-      some = λ e. absurd (false≢true (sym (ne_eqb i (length ms) (λ d. omega arith)) ∙ e));
+      some = λ e. absurd (false≢true e);
       none = λ e t c ls accepting m. none_there hv t c ls accepting m;
       unwritten = λ e t c ls accepting m. w.fresh (at_first hv t c ls accepting m);
     }
 
   pub walks_some : (is needs : List ℕ) (q s i : ℕ) → 1 ≤ length ms → i ≤ length ms → length ms ≤ i → length is ≡ length ms
-      → Walking a qs vs start spent ms work was is needs q s i → Walks a qs vs start spent ms work was is (eqb i (length ms))
+      → Walking a qs vs start spent ms work was is needs q s i → Walks a qs vs start spent ms work was is true
   walks_some is needs q s i h1 hi hj ho w =
       let e : i ≡ length ms = omega arith in
-      let d : eqb i (length ms) ≡ true = eq-eqb i (length ms) e in
       record {
         some = λ k t c ls accepting m. w.first t c ls accepting m ∙ last t c ls accepting m;
-        none = λ k. absurd (false≢true (sym k ∙ d));
-        unwritten = λ k. absurd (false≢true (sym k ∙ d));
+        none = λ k. absurd (false≢true (sym k));
+        unwritten = λ k. absurd (false≢true (sym k));
       }
     where
       last : (t c ls : List ℕ) (accepting : ℕ) → Meant a qs vs ms work t c ls accepting

@@ -1,7 +1,7 @@
 -- The forward pass and the walk, as functions. Inner: no entry point's contract cites this file; proofs/ shows what they mean.
-use Rattle.std.specs.Prelude.{Bool, true, false, cond, ◌&&◌, List, [], ◌∷◌, map, ◌≡◌, ℕ, zero, suc, ◌+◌, ◌*◌, ◌^◌, ◌≤◌, ◌<◌, min, ltb, eqb, length, get_or, take}
+use Rattle.std.specs.Prelude.{Bool, true, false, cond, ◌&&◌, List, [], ◌∷◌, map, ◌≡◌, ℕ, zero, suc, ◌+◌, ◌*◌, ◌^◌, ◌≤◌, ◌<◌, min, ltb, eqb, length, get_or, take, Option, Some, None, IfSome}
 use Rattle.kinds.specs.Bits.{width, bit, mask_of}
-use Rattle.meaning.specs.Meaning.{Arcs, arcs_of, rules_of, cost, places, rosters, verdict, verdict_of}
+use Rattle.meaning.specs.Meaning.{Arcs, arcs_of, rules_of, cost, places, rosters, Verdict, verdict, verdict_of}
 use Rattle.meaning.specs.Lists.{each, any}
 use Rattle.meaning.specs.Bounds.{most_states, table_size, top}
 use Rattle.ranks.specs.Rows.{no_arc, cost_in, out, Ranked}
@@ -68,9 +68,9 @@ lowest row (suc q) = min (get_or row q 0) (lowest row q)
 unfoldable pub live_of : ℕ → List ℕ → ℕ
 live_of n front = mask_of (λ q. ltb (get_or front q 0) (suc top)) n
 
--- the live states, or 0 for not worked out yet
-pub record LiveHeld (n : ℕ) (front : List ℕ) (live : ℕ) : Type 0 where
-  pub is : 0 < live → live ≡ live_of n front
+-- the live states, if they are worked out yet
+abbrev pub LiveHeld : ℕ → List ℕ → Option ℕ → Type 0
+LiveHeld n front held = IfSome held (λ live. live ≡ live_of n front)
 
 -- rows of the work table that hold needs
 pub record LowRows (n rows : ℕ) (work : List ℕ) : Type 0 where
@@ -124,11 +124,12 @@ pub record Pulled (qs vs m : ℕ) (front rests into is : List ℕ) (found : Bool
 pub record Lows (n : ℕ) (fronts held : List ℕ) : Type 0 where
   pub low : (s k : ℕ) → s < 8 → 0 < get_or held s 0 → k < n → get_or fronts (s * most_states + k) 0 ≤ suc top
 
--- a slot that has a mask, and a front but for a rise, if it is no greater than a rise can be
+-- a slot that has a mask, and a front but for a rise
 pub record Known (n mask slot rise : ℕ) (front fronts held : List ℕ) : Type 0 where
-  pub some : rise ≤ suc top → 0 < get_or held slot 0
-  pub same : rise ≤ suc top → get_or held slot 0 ≡ mask
-  pub row : rise ≤ suc top → (k : ℕ) → k < n → get_or front k 0 ≡ min (suc top) (get_or fronts (slot * most_states + k) 0 + rise)
+  pub low : rise ≤ suc top
+  pub some : 0 < get_or held slot 0
+  pub same : get_or held slot 0 ≡ mask
+  pub row : (k : ℕ) → k < n → get_or front k 0 ≡ min (suc top) (get_or fronts (slot * most_states + k) 0 + rise)
 
 -- the slots that are not empty have a front, a mask and the least costs of its looks
 pub record Past (a : Net) (qs vs : ℕ) (fronts onwards held : List ℕ) : Type 0 where
@@ -150,13 +151,16 @@ pub record Meant (a : Net) (qs vs : ℕ) (ms work t c ls : List ℕ) (accepting 
   pub arcs : Same (arcs_of qs vs t c) vs a
   pub rooms : Layers (frame a qs vs accepting) ms ls 0 work
 
--- the masks and the least cost that the forward pass gives, as the list of rosters tells them; one more than the top where there is none
-pub record Tells (a : Net) (qs vs start spent : ℕ) (ms work out : List ℕ) (least : ℕ) : Type 0 where
-  pub most : least ≤ suc top
-  pub some : (t c ls : List ℕ) (accepting : ℕ) → Meant a qs vs ms work t c ls accepting → least ≤ top
-      → verdict 0 out least ≡ verdict_of (rules_of qs vs t c accepting) start spent (places ms ls)
-  pub none : (t c ls : List ℕ) (accepting : ℕ) → Meant a qs vs ms work t c ls accepting → top < least
-      → verdict 11 out 0 ≡ verdict_of (rules_of qs vs t c accepting) start spent (places ms ls)
+-- the verdict that kept masks and a least cost make, or that masks make where no roster is allowed
+abbrev pub verdict_by : List ℕ → Option ℕ → Verdict
+verdict_by out (Some least) = verdict 0 out least
+verdict_by out None = verdict 11 out 0
+
+-- the masks and the least cost, if a roster is allowed, that the forward pass gives, as the list of rosters tells them
+pub record Tells (a : Net) (qs vs start spent : ℕ) (ms work out : List ℕ) (least : Option ℕ) : Type 0 where
+  pub most : IfSome least (λ x. x ≤ top)
+  pub right : (t c ls : List ℕ) (accepting : ℕ) → Meant a qs vs ms work t c ls accepting
+      → verdict_by out least ≡ verdict_of (rules_of qs vs t c accepting) start spent (places ms ls)
 
 -- FIRST ROSTER. Whether a value can be taken at a state, with a cost spent.
 abbrev pub takeable : Net → List ℕ → ℕ → ℕ → ℕ → ℕ → Bool

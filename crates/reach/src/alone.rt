@@ -10,10 +10,6 @@ pub(crate) fn narrow(masks: &[u16], place: usize, value: Value, own: &mut [u16])
     requires { (place < length masks.now) × (length own.old ≡ length masks.now) }
     ensures { own.new ≡ set masks.now place (bit_and (get_or masks.now place 0) (mask_of (λ u. eqb u value.0) width)) }
 {
-    let mut i: usize = 0;
-    while i < masks.len() {
-        own[i] = masks[i];
-        i += 1;
-    }
+    own.copy_from_slice(masks);
     own[place] = Mask(masks[place]).meet(Mask::single(value)).0;
 }

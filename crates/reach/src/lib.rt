@@ -4,5 +4,6 @@
 mod alone;
 mod forward;
 mod past;
+mod tables;
 mod walk;
 pub mod whole;

@@ -1,35 +1,32 @@
 // What the last places spread: where a front is one of theirs but for a rise, and the mask is the same, their least costs serve again.
-ghost use Rattle.std.specs.Prelude.{◌≡◌, suc, ◌+◌, ◌*◌, ◌≤◌, ◌<◌, min, length, get_or, set};
+ghost use Rattle.std.specs.Prelude.{◌≡◌, suc, ◌+◌, ◌*◌, ◌≤◌, ◌<◌, min, length, get_or, set, IfSome};
 ghost use Rattle.meaning.specs.Bounds.{most_states, top};
 ghost use Rattle.rooms.specs.Tables.{Filled, Matches, Laid, Low};
 ghost use Rattle.reach.specs.Looks.{Lows, Known};
 
-use kinds::{Mask, State};
+use kinds::Mask;
 use rooms::backward::MOST_SPAN;
 use rooms::rows;
 use rules::bounds;
 use rules::bounds::TOP;
-use rules::numbers::lesser;
 
 // A cost with a rise, one more than the top at most.
 pub(crate) fn raised(cost: u32, rise: u32) -> u32
     requires { (cost ≤ suc top) × (rise ≤ suc top) }
     ensures { result ≡ min (suc top) (cost + rise) }
 {
-    lesser(TOP + 1, cost + rise)
+    (TOP + 1).min(cost + rise)
 }
 
-// Whether a row is another one with a rise.
+// Whether a row is another one with a rise. That of rooms is the same, but not lent out.
 pub(crate) fn risen(count: usize, rise: u32, from: &[u32], row: &[u32]) -> bool
     requires { (count ≤ length from.now) × (count ≤ length row.now) × (rise ≤ suc top) × Low count from.now }
     ensures { Matches (λ k. min (suc top) (get_or from.now k 0 + rise)) count row.now result }
 {
-    let mut k: usize = 0;
-    while k < count {
+    for k in 0..count {
         if row[k] != raised(from[k], rise) {
             return false;
         }
-        k += 1;
     }
     true
 }
@@ -39,39 +36,31 @@ pub(crate) fn lift(count: usize, rise: u32, from: &[u32], row: &mut [u32])
     requires { (count ≤ length from.now) × (count ≤ length row.old) × (rise ≤ suc top) × Low count from.now }
     ensures { Filled (λ k. min (suc top) (get_or from.now k 0 + rise)) count row.old row.new }
 {
-    let mut k: usize = 0;
-    while k < count {
+    for k in 0..count {
         row[k] = raised(from[k], rise);
-        k += 1;
     }
 }
 
 // The first live state, where there is one.
-pub(crate) fn alive(states: usize, front: &[u32]) -> State
-    requires { (1 ≤ states) × (states ≤ most_states) × (states ≤ length front.now) }
-    ensures { result.0 < states }
+pub(crate) fn alive(states: usize, front: &[u32]) -> Option<usize>
+    requires { states ≤ length front.now }
+    ensures { IfSome result (λ q. q < states) }
 {
-    let mut q = State(0);
-    while (q.0 as usize) + 1 < states {
-        if front[q.0 as usize] <= TOP {
-            return q;
-        }
-        q = State(q.0 + 1);
-    }
-    q
+    front[..states].iter().position(|cost| *cost <= TOP)
 }
 
-// How much the cost of a live state has risen since the front in a slot.
+// How much the cost of a live state has risen since the front in a slot; 0, where no state is live.
 pub(crate) fn rise_from(states: usize, slot: usize, front: &[u32], fronts: &[u32]) -> u32
-    requires { (1 ≤ states) × (states ≤ most_states) × (states ≤ length front.now) × (slot < 8) × (length fronts.now ≡ 512) × Low states front.now }
+    requires { (states ≤ most_states) × (states ≤ length front.now) × (slot < 8) × (length fronts.now ≡ 512) × Low states front.now }
     ensures { result ≤ suc top }
 {
-    let q = alive(states, front).0 as usize;
-    let at = slot * bounds::MOST_STATES + q;
-    rows::less(front[q], fronts[at])
+    match alive(states, front) {
+        Some(q) => front[q].saturating_sub(fronts[slot * bounds::MOST_STATES + q]),
+        None => 0,
+    }
 }
 
-// How far a front lies above that of a slot, if the slot has the mask, and the front but for a rise. Else more than any rise.
+// How far a front lies above that of a slot, if the slot has the mask, and the front but for a rise.
 pub(crate) fn rise_to(
     states: usize,
     mask: Mask,
@@ -79,23 +68,21 @@ pub(crate) fn rise_to(
     front: &[u32],
     fronts: &[u32],
     held: &[u16],
-) -> u32
-    requires { (1 ≤ states) × (states ≤ most_states) × (slot < 8) × (states ≤ length front.now) × (length fronts.now ≡ 512) × (length held.now ≡ 8) × Low states front.now × Lows states fronts.now held.now }
-    ensures { Known states mask.0 slot result front.now fronts.now held.now }
+) -> Option<u32>
+    requires { (states ≤ most_states) × (slot < 8) × (states ≤ length front.now) × (length fronts.now ≡ 512) × (length held.now ≡ 8) × Low states front.now × Lows states fronts.now held.now }
+    ensures { IfSome result (λ rise. Known states mask.0 slot rise front.now fronts.now held.now) }
 {
-    if mask.0 == Mask::EMPTY.0 {
-        return TOP + 2;
-    }
-    if held[slot] != mask.0 {
-        return TOP + 2;
+    if mask == Mask::EMPTY || held[slot] != mask.0 {
+        return None;
     }
     let rise = rise_from(states, slot, front, fronts);
     let at = slot * bounds::MOST_STATES;
     let end = at + bounds::MOST_STATES;
     if risen(states, rise, &fronts[at..end], front) {
-        return rise;
+        Some(rise)
+    } else {
+        None
     }
-    TOP + 2
 }
 
 // Whether a place is to be noted. One that was known need not be where its span divides the slots, since the places after it then come

@@ -4,6 +4,7 @@ ghost use Rattle.meaning.specs.Bounds.{table_size, top};
 ghost use Rattle.reach.specs.Looks.{Vacant};
 ghost use Rattle.reach.specs.Whole.{Order, FilterRuns, FirstRuns};
 
+use crate::tables::Turned;
 use crate::{alone, forward, walk};
 use kinds::{Mask, State, Value};
 use ranks::arc::{NO_COST, NONE};
@@ -16,10 +17,7 @@ use rules::bounds::TOP;
 pub(crate) fn in_order(states: usize, start: State, spent: u32, count: usize, out: usize) -> bool
     ensures { Order states start.0 spent count out result }
 {
-    if states <= (start.0 as usize) {
-        return false;
-    }
-    if TOP < spent {
+    if states <= usize::from(start) || TOP < spent {
         return false;
     }
     out == count
@@ -35,15 +33,7 @@ pub(crate) fn worth(values: usize, masks: &[u16]) -> bool {
         return false;
     }
     let full = Mask::full(values).0;
-    let mut count: usize = 0;
-    let mut i: usize = 0;
-    while i < masks.len() {
-        if masks[i] == full {
-            count += 1;
-        }
-        i += 1;
-    }
-    ENOUGH <= count
+    ENOUGH <= masks.iter().filter(|mask| **mask == full).count()
 }
 
 // The two passes, by the rows of arcs where there are tables for them: the rows out of each state, and those into each state, with no arc in
@@ -62,7 +52,7 @@ pub(crate) fn passes(
     into: &mut [u32],
     kept: &mut [u16],
     work: &mut [u32],
-) -> u32
+) -> Option<u32>
     requires { (start.0 < states) × (spent ≤ top) × (length kept.old ≡ length masks.now) × (length arcs.old ≡ length into.old) × Vacant into.old }
     ensures { FilterRuns states values targets.now costs.now accepting start.0 spent masks.now limits.now kept.old work.old kept.new work.new result }
 {
@@ -71,18 +61,22 @@ pub(crate) fn passes(
     if !backward::prepare(
         states, values, targets, costs, accepting, masks, limits, &mut to, &mut fee, arcs, work,
     ) {
-        return TOP + 1;
+        return None;
     }
     let mut rests = [NO_COST; bounds::MOST_STATES];
     rank::turn(states, arcs, &mut rests, into);
-    let least = forward::pass(
-        states, values, &to, &fee, &rests, into, start, spent, masks, work, kept,
-    );
+    let turned = Turned {
+        states,
+        values,
+        targets: &to,
+        costs: &fee,
+    };
+    let least = forward::pass(&turned, &rests, into, start, spent, masks, work, kept);
     rows::wipe(work);
     least
 }
 
-// The whole filter: the least cost, one more than the top where no roster is allowed. Where something lent is not in order, all stays.
+// The whole filter: the least cost, if a roster is allowed. Where something lent is not in order, all stays.
 pub fn filter_from(
     states: usize,
     values: usize,
@@ -95,11 +89,11 @@ pub fn filter_from(
     limits: &[u32],
     kept: &mut [u16],
     work: &mut [u32],
-) -> u32
+) -> Option<u32>
     ensures { FilterRuns states values targets.now costs.now accepting start.0 spent masks.now limits.now kept.old work.old kept.new work.new result }
 {
-    if !in_order(states, State(start.0), spent, masks.len(), kept.len()) {
-        return TOP + 1;
+    if !in_order(states, start, spent, masks.len(), kept.len()) {
+        return None;
     }
     if !worth(values, masks) {
         return passes(
@@ -156,7 +150,7 @@ pub fn first_from(
     ensures { FirstRuns states values targets.now costs.now accepting start.0 spent masks.now limits.now place value.0 roster.old work.old roster.new work.new result }
 {
     let count = masks.len();
-    if !in_order(states, State(start.0), spent, count, roster.len()) {
+    if !in_order(states, start, spent, count, roster.len()) {
         return false;
     }
     if count <= place {
@@ -177,7 +171,13 @@ pub fn first_from(
     ) {
         return false;
     }
-    let found = walk::walk(states, values, &to, &fee, start, spent, own, work, roster);
+    let turned = Turned {
+        states,
+        values,
+        targets: &to,
+        costs: &fee,
+    };
+    let found = walk::walk(&turned, start, spent, own, work, roster);
     rows::wipe(work);
     found
 }

@@ -1,10 +1,10 @@
 // The C boundary: numbers as themselves, a slice as a pointer and a length; the answer's number is returned, carried numbers are written.
 #![tactic(auto)]
 
-ghost use Rattle.std.specs.Prelude.{◌≡◌, cond};
+ghost use Rattle.std.specs.Prelude.{◌≡◌, ℕ, cond};
 ghost use Rattle.meaning.specs.Meaning.{rules_of, Keep, Limit};
 ghost use Rattle.rules.specs.Report.{outcome, report_of};
-ghost use Rattle.rules.specs.Checks.{handed};
+ghost use Rattle.rules.specs.Checks.{handed, handed_in};
 ghost use Rattle.ledger.specs.Sessions.{opening, deciding, marking, going_back};
 ghost use Rattle.ledger.specs.Readiness.{left as left_in};
 ghost use Rattle.ledger.specs.Calls.{opened, called};
@@ -20,7 +20,40 @@ ghost use Rattle.job.specs.Mend.{mend_job_text};
 ghost use Rattle.drafter.specs.Drafting.{pattern_job_text};
 
 use kinds::{State, Value};
-use rules::Size;
+use rules::{Outline, RuleSet, Size, number_of};
+
+// What is written of an outline under a refusal.
+const NOTHING: Outline = Outline {
+    size: Size {
+        states: 0,
+        values: 0,
+        start: State(0),
+    },
+    accepting: 0,
+};
+
+// A rule set of what C lends.
+fn rule_set<'a>(
+    states: usize,
+    values: usize,
+    start: u8,
+    targets: &'a [u8],
+    costs: &'a [u16],
+    accepting: u64,
+) -> RuleSet<'a>
+    ensures { (n : ℕ) → handed_in n result ≡ handed n states values start targets.now costs.now accepting }
+{
+    RuleSet {
+        size: Size {
+            states,
+            values,
+            start: State(start),
+        },
+        targets,
+        costs,
+        accepting,
+    }
+}
 
 #[unsafe(no_mangle)]
 pub extern "C" fn reedgosling_filter(
@@ -39,17 +72,10 @@ pub extern "C" fn reedgosling_filter(
 ) -> u32
     ensures { left result least.new kept.new work.new ≡ filter_of (handed places states values start targets.now costs.now accepting) masks.now limits.now kept.old work.old }
 {
-    let size = Size {
-        states,
-        values,
-        start: State(start),
-    };
-    let verdict = filter::filter(
-        places, size, targets, costs, accepting, masks, limits, kept, work,
-    );
-    let answer = verdict.answer;
-    *least = verdict.least;
-    answer.number() as u32
+    let rules = rule_set(states, values, start, targets, costs, accepting);
+    let verdict = filter::filter(places, &rules, masks, limits, kept, work);
+    *least = verdict.unwrap_or(0);
+    u32::from(number_of(&verdict))
 }
 
 #[unsafe(no_mangle)]
@@ -70,17 +96,10 @@ pub extern "C" fn reedgosling_first_roster(
 ) -> u32
     ensures { given result roster.new work.new ≡ first_of (handed places states values start targets.now costs.now accepting) masks.now limits.now place value roster.old work.old }
 {
-    let size = Size {
-        states,
-        values,
-        start: State(start),
-    };
-    let answer = filter::first_roster(
+    let rules = rule_set(states, values, start, targets, costs, accepting);
+    let found = filter::first_roster(
         places,
-        size,
-        targets,
-        costs,
-        accepting,
+        &rules,
         masks,
         limits,
         place,
@@ -88,7 +107,7 @@ pub extern "C" fn reedgosling_first_roster(
         roster,
         work,
     );
-    answer.number() as u32
+    u32::from(number_of(&found))
 }
 
 #[unsafe(no_mangle)]
@@ -105,15 +124,10 @@ pub extern "C" fn reedgosling_prefix_report(
 ) -> u32
     ensures { outcome result report.new ≡ report_of (handed places states values start targets.now costs.now accepting) roster.now }
 {
-    let size = Size {
-        states,
-        values,
-        start: State(start),
-    };
-    let reported = rules::prefix_report(places, size, targets, costs, accepting, roster);
-    let answer = reported.answer;
-    *report = reported.report;
-    answer.number() as u32
+    let rules = rule_set(states, values, start, targets, costs, accepting);
+    let reported = rules::prefix_report(places, &rules, roster);
+    *report = reported.unwrap_or(0);
+    u32::from(number_of(&reported))
 }
 
 #[unsafe(no_mangle)]
@@ -135,24 +149,17 @@ pub extern "C" fn reedgosling_mend(
 ) -> u32
     ensures { planned result changes.new roster.new work.new ≡ mend_of (handed places states values start targets.now costs.now accepting) masks.now limits.now drawn.now most roster.old work.old }
 {
-    let size = Size {
-        states,
-        values,
-        start: State(start),
-    };
-    let mended = planner::mend(
-        places, size, targets, costs, accepting, masks, limits, drawn, most, roster, work,
-    );
-    let answer = mended.answer;
-    *changes = mended.changes;
-    answer.number() as u32
+    let rules = rule_set(states, values, start, targets, costs, accepting);
+    let mended = planner::mend(places, &rules, masks, limits, drawn, most, roster, work);
+    *changes = mended.unwrap_or(0);
+    u32::from(number_of(&mended))
 }
 
 // A yes or no as a number.
 fn told(says: bool) -> u8
     ensures { result ≡ cond says 1 0 }
 {
-    if says { 1 } else { 0 }
+    u8::from(says)
 }
 
 #[unsafe(no_mangle)]
@@ -173,17 +180,10 @@ pub extern "C" fn reedgosling_check(
 ) -> u32
     ensures { (result ≡ (check_of (handed places states values start targets.now costs.now accepting) masks.now limits.now drawn.now roster.now claimed).answer) × (says.new ≡ cond (check_of (handed places states values start targets.now costs.now accepting) masks.now limits.now drawn.now roster.now claimed).says 1 0) }
 {
-    let size = Size {
-        states,
-        values,
-        start: State(start),
-    };
-    let checked = checker::check_roster(
-        places, size, targets, costs, accepting, masks, limits, drawn, roster, claimed,
-    );
-    let answer = checked.answer;
-    *says = told(checked.says);
-    answer.number() as u32
+    let rules = rule_set(states, values, start, targets, costs, accepting);
+    let checked = checker::check_roster(places, &rules, masks, limits, drawn, roster, claimed);
+    *says = told(checked.unwrap_or(false));
+    u32::from(number_of(&checked))
 }
 
 #[unsafe(no_mangle)]
@@ -200,15 +200,21 @@ pub extern "C" fn reedgosling_read_sheet(
     ensures { read_left result line.new states.new values.new start.new accepting.new targets.new costs.new ≡ read_of text.now targets.old costs.old }
 {
     let read = sheet::read_sheet(text, targets, costs);
-    let answer = read.answer;
-    let size = read.size;
-    let first = size.start;
-    *line = read.line;
-    *states = size.states;
-    *values = size.values;
-    *start = first.0;
-    *accepting = read.accepting;
-    answer.number() as u32
+    let outline = read.unwrap_or(NOTHING);
+    *states = outline.size.states;
+    *values = outline.size.values;
+    *start = outline.size.start.0;
+    *accepting = outline.accepting;
+    match read {
+        Ok(_) => {
+            *line = 0;
+            0
+        }
+        Err(unread) => {
+            *line = unread.line();
+            u32::from(unread.answer().number())
+        }
+    }
 }
 
 #[unsafe(no_mangle)]
@@ -225,14 +231,12 @@ pub extern "C" fn reedgosling_read_pattern(
     ensures { pattern_left result states.new values.new start.new accepting.new targets.new costs.new ≡ pattern_of line.now count targets.old costs.old }
 {
     let composed = compositor::read_pattern(line, count, targets, costs);
-    let answer = composed.answer;
-    let made = composed.size;
-    let begin = made.start;
-    *states = made.states;
-    *values = made.values;
-    *start = begin.0;
-    *accepting = composed.accepting;
-    answer.number() as u32
+    let made = composed.unwrap_or(NOTHING);
+    *states = made.size.states;
+    *values = made.size.values;
+    *start = made.size.start.0;
+    *accepting = made.accepting;
+    u32::from(number_of(&composed))
 }
 
 #[unsafe(no_mangle)]
@@ -248,15 +252,10 @@ pub extern "C" fn reedgosling_write_sheet(
 ) -> u32
     ensures { write_left result length.new buffer.new ≡ write_of (rules_of states values targets.now costs.now accepting) start buffer.old }
 {
-    let size = Size {
-        states,
-        values,
-        start: State(start),
-    };
-    let written = scribe::write_sheet(size, targets, costs, accepting, buffer);
-    let answer = written.answer;
-    *length = written.length;
-    answer.number() as u32
+    let rules = rule_set(states, values, start, targets, costs, accepting);
+    let written = scribe::write_sheet(&rules, buffer);
+    *length = written.unwrap_or(0);
+    u32::from(number_of(&written))
 }
 
 #[unsafe(no_mangle)]
@@ -275,15 +274,9 @@ pub extern "C" fn reedgosling_open(
 ) -> u32
     ensures { left_in result memory.new work.new ≡ opened (handed places states values start targets.now costs.now accepting) (opening masks.now limits.now) memory.old work.old }
 {
-    let size = Size {
-        states,
-        values,
-        start: State(start),
-    };
-    let answer = session::open(
-        places, size, targets, costs, accepting, masks, limits, memory, work,
-    );
-    answer.number() as u32
+    let rules = rule_set(states, values, start, targets, costs, accepting);
+    let done = session::open(places, &rules, masks, limits, memory, work);
+    u32::from(number_of(&done))
 }
 
 #[unsafe(no_mangle)]
@@ -302,15 +295,9 @@ pub extern "C" fn reedgosling_keep(
 ) -> u32
     ensures { left_in result memory.new work.new ≡ called (handed places states values start targets.now costs.now accepting) (deciding (Keep place mask)) memory.old work.old }
 {
-    let size = Size {
-        states,
-        values,
-        start: State(start),
-    };
-    let answer = session::keep(
-        places, size, targets, costs, accepting, place, mask, memory, work,
-    );
-    answer.number() as u32
+    let rules = rule_set(states, values, start, targets, costs, accepting);
+    let done = session::keep(places, &rules, place, mask, memory, work);
+    u32::from(number_of(&done))
 }
 
 #[unsafe(no_mangle)]
@@ -329,15 +316,9 @@ pub extern "C" fn reedgosling_limit(
 ) -> u32
     ensures { left_in result memory.new work.new ≡ called (handed places states values start targets.now costs.now accepting) (deciding (Limit place cost)) memory.old work.old }
 {
-    let size = Size {
-        states,
-        values,
-        start: State(start),
-    };
-    let answer = session::limit(
-        places, size, targets, costs, accepting, place, cost, memory, work,
-    );
-    answer.number() as u32
+    let rules = rule_set(states, values, start, targets, costs, accepting);
+    let done = session::limit(places, &rules, place, cost, memory, work);
+    u32::from(number_of(&done))
 }
 
 #[unsafe(no_mangle)]
@@ -354,13 +335,9 @@ pub extern "C" fn reedgosling_mark(
 ) -> u32
     ensures { left_in result memory.new work.new ≡ called (handed places states values start targets.now costs.now accepting) marking memory.old work.old }
 {
-    let size = Size {
-        states,
-        values,
-        start: State(start),
-    };
-    let answer = session::mark(places, size, targets, costs, accepting, memory, work);
-    answer.number() as u32
+    let rules = rule_set(states, values, start, targets, costs, accepting);
+    let done = session::mark(places, &rules, memory, work);
+    u32::from(number_of(&done))
 }
 
 #[unsafe(no_mangle)]
@@ -377,13 +354,9 @@ pub extern "C" fn reedgosling_back(
 ) -> u32
     ensures { left_in result memory.new work.new ≡ called (handed places states values start targets.now costs.now accepting) going_back memory.old work.old }
 {
-    let size = Size {
-        states,
-        values,
-        start: State(start),
-    };
-    let answer = session::back(places, size, targets, costs, accepting, memory, work);
-    answer.number() as u32
+    let rules = rule_set(states, values, start, targets, costs, accepting);
+    let done = session::back(places, &rules, memory, work);
+    u32::from(number_of(&done))
 }
 
 #[unsafe(no_mangle)]

@@ -16,18 +16,15 @@ use Rattle.rooms.proofs.Filling.{row_part, laid_outside}
 use Rattle.rooms.proofs.Layering.{layer_none, layer_low, layer_best, more_row, layers_lay}
 
 -- whether two layers are alike, as the code finds it
-pub alike_not : (n : ℕ) (ms ls : List ℕ) (i like : ℕ) (needs work : List ℕ) → LikeLayer n 366002 ms ls i like needs work
-unfolding top
-alike_not n ms ls i like needs work = record { mask = λ e. absurd (omega arith); clear = λ e. absurd (omega arith); row = λ e. absurd (omega arith) }
-
-pub alike_is : {n rise : ℕ} {ms ls : List ℕ} {i like : ℕ} {needs work : List ℕ} {b clear : Bool} (least other : ℕ) → n ≤ 64 → get_or ms i 0 ≡ get_or ms like 0
+pub alike_is : {n rise : ℕ} {ms ls : List ℕ} {i like : ℕ} {needs work : List ℕ} {b clear : Bool} (least other : ℕ) → n ≤ 64 → rise ≤ suc top → get_or ms i 0 ≡ get_or ms like 0
     → least ≡ top - before ls i → other ≡ top - before ls like → (clear ≡ true → Clear least other rise) → clear ≡ true
     → Matches (λ k. min (suc top) (get_or (take ((like + 1) * 64 + 64 - (like + 1) * 64) (drop ((like + 1) * 64) work)) k 0 + rise)) n needs b → b ≡ true
     → LikeLayer n rise ms ls i like needs work
-alike_is {n} {rise} {ms} {ls} {i} {like} {needs} {work} least other h m e o t k f d = record {
-  mask = λ z. m;
-  clear = λ z. rw (e, o) at (t k);
-  row = λ z q l. f.is d q l ∙ ap (λ (x : ℕ). min (suc top) (x + rise)) (row_part work (like + 1) ((like + 1) * 64 + 64 - (like + 1) * 64) q (omega arith));
+alike_is {n} {rise} {ms} {ls} {i} {like} {needs} {work} least other h r m e o t k f d = record {
+  few = r;
+  mask = m;
+  clear = rw (e, o) at (t k);
+  row = λ q l. f.is d q l ∙ ap (λ (x : ℕ). min (suc top) (x + rise)) (row_part work (like + 1) ((like + 1) * 64 + 64 - (like + 1) * 64) q (omega arith));
 }
 
 -- the first k numbers of a table wiped, and k from `back` on
@@ -111,11 +108,11 @@ module _ (f : Frame) (ms ls : List ℕ) (same : length ls ≡ length ms) where
 -- layer i laid, as a layer that is alike or from the next row
 module _ (a : Net) (qs vs : ℕ) (ms ls : List ℕ) (i least : ℕ) (needs work needs' work' : List ℕ) (few : qs ≤ 64) (same : length ls ≡ length ms) (cut : least ≡ top - before ls i)
     (all : length needs ≡ 256) (long : length needs' ≡ length needs) where
-  pub lays_like : (like rise : ℕ) → i < like → like < length ms → LikeLayer qs rise ms ls i like needs work → rise ≤ suc top
+  pub lays_like : (like rise : ℕ) → i < like → like < length ms → LikeLayer qs rise ms ls i like needs work
       → Laid (λ q. max least (min (suc top) (get_or work (like * 64 + q) 0 + rise))) qs i work work'
       × Filled (λ q. max least (min (suc top) (get_or work (like * 64 + q) 0 + rise))) qs needs needs'
       → Lays a qs vs ms ls i needs work needs' work'
-  lays_like like rise hi hl k t y = record { right = right; beside = laid_outside (omega arith) y.0 }
+  lays_like like rise hi hl k y = record { right = right; beside = laid_outside (omega arith) y.0 }
     where
       right : (accepting : ℕ) → Layers (frame a qs vs accepting) ms ls (i + 1) work × Needed (layer (frame a qs vs accepting) ms ls (i + 1)) qs needs
           → Layers (frame a qs vs accepting) ms ls i work' × Needed (layer (frame a qs vs accepting) ms ls i) qs needs'
@@ -128,10 +125,10 @@ module _ (a : Net) (qs vs : ℕ) (ms ls : List ℕ) (i least : ℕ) (needs work 
           behind q h =
               let m : need_at needs q ≡ need (layer f ms ls (suc i) q) = rw add-one at (r.1.done q h) in
               let n : get_or work ((like + 1) * 64 + q) 0 ≡ need (layer f ms ls (suc like) q) = rw add-one (r.0.right (suc like) q (omega arith) (omega arith) h) in
-              omega (arith, within needs q 0 (suc top) (omega arith), k.row t q h, layer_low f ms ls same (suc i) q, layer_low f ms ls same (suc like) q)
+              omega (arith, within needs q 0 (suc top) (omega arith), k.row q h, layer_low f ms ls same (suc i) q, layer_low f ms ls same (suc like) q)
 
           is : (q : ℕ) → q < qs → max least (min (suc top) (get_or work (like * 64 + q) 0 + rise)) ≡ need (layer f ms ls i q)
-          is q h = rw (cut, r.0.right like q (omega arith) (omega arith) h) (layer_like f ms ls same i like rise q (omega arith) hl h (k.mask t) (k.clear t) behind)
+          is q h = rw (cut, r.0.right like q (omega arith) (omega arith) h) (layer_like f ms ls same i like rise q (omega arith) hl h k.mask k.clear behind)
 
   pub lays_more : i < length ms
       → Laid (λ q. max (need (best a (rooms_by needs) q (choices vs (get_or ms i 0)))) least) qs i work work'

@@ -1,5 +1,5 @@
 -- Lists that are filled or compared from the front.
-use mathlib.Core.Path.{◌≡◌, refl, sym, ap, ◌∙◌, subst}
+use mathlib.Core.Path.{◌≡◌, refl, ap, ◌∙◌, subst}
 use mathlib.Core.Bool.{true, false, false≢true, or-true}
 use mathlib.Core.Logic.{◌⊎◌, ⊎_elim}
 use mathlib.Core.List.{List, ◌++◌}
@@ -7,8 +7,8 @@ use Prim.Native.Nat.{ℕ, suc, ◌+◌, ◌*◌, ◌-◌, ◌≤◌, ◌<◌}
 use native.Mathlib.Omega.{arith}
 use native.Mathlib.Decide.{ℕ_discrete, dec_lt}
 use lib.Dec.{ltb}
-use lib.ListN.{length, get_or, set, replicate, take, drop, length-append, length-drop, length-replicate, get_or-replicate, get_or-append}
-use lib.Seq.{get_or-set_same, get_or-set_other, get_or-take, get_or-drop, get_or-append-add, length-take-le, ext_get_or}
+use lib.ListN.{length, get_or, set, replicate, take, drop, length-drop, length-replicate, get_or-replicate, get_or-append}
+use lib.Seq.{get_or-set_same, get_or-set_other, get_or-take, get_or-drop, get_or-append-add, length-take-le}
 use borrow.Author.Tests.{lt-ltb, le-ltb}
 use borrow.Rule.Slice.PartMut.{put_mid, mid_of, mid_len}
 use Rattle.meaning.specs.Bounds.{top}
@@ -60,14 +60,6 @@ pub low_fits : {x y : ℕ} → x ≤ suc top → y ≤ suc top → x + y < 42949
 unfolding top
 low_fits h k = omega arith
 
--- what a filled row is: one content
-pub filled_one : (f : ℕ → ℕ) (n : ℕ) (was a b : List ℕ) → length a ≡ length b → Filled f n was a → Filled f n was b → a ≡ b
-filled_one f n was a b e r s = ext_get_or 0 a b e (λ k h. go k (dec_lt k n))
-  where
-    go : (k : ℕ) → Dec (k < n) → get_or a k 0 ≡ get_or b k 0
-    go k (yes h) = r.done k h ∙ sym (s.done k h)
-    go k (no h) = r.left k (omega arith) ∙ sym (s.left k (omega arith))
-
 -- a list put over the front of another
 front_filled : (f : ℕ → ℕ) (n : ℕ) (fs was : List ℕ) → length fs ≡ n → ((k : ℕ) → k < n → get_or fs k 0 ≡ f k) → Filled f n was (fs ++ drop n was)
 front_filled f n fs was e h = record { done = λ k l. get_or-append fs (drop n was) 0 k (omega arith) ∙ h k l; left = left }
@@ -79,12 +71,9 @@ front_filled f n fs was e h = record { done = λ k l. get_or-append fs (drop n w
         subst (λ (z : ℕ). get_or (fs ++ drop n was) z 0 ≡ get_or was k 0) d
         (get_or-append-add fs (drop n was) (k - n) 0 ∙ (get_or-drop n was (k - n) 0 ∙ ap (λ (z : ℕ). get_or was z 0) j))
 
-front_long : (n : ℕ) (fs was : List ℕ) → length fs ≡ n → n ≤ length was → length (fs ++ drop n was) ≡ length was
-front_long n fs was e h = simp (length-append, length-drop) (omega arith)
-
 -- blanked and copied rows: for callers, and as the code makes them
 module _ (n x : ℕ) where
-  blanked_front : (was : List ℕ) → n ≤ length was → Filled (λ k. x) n was (replicate n x ++ drop n was)
+  pub blanked_front : (was : List ℕ) → n ≤ length was → Filled (λ k. x) n was (replicate n x ++ drop n was)
   blanked_front was h = front_filled (λ k. x) n (replicate n x) was (length-replicate n x) (λ k l. get_or-replicate n k x 0 l)
 
   pub blanked_filled : {was is : List ℕ} → n ≤ length was → is ≡ blanked n x was → Filled (λ k. x) n was is
@@ -95,13 +84,12 @@ module _ (n x : ℕ) where
   unfolding blanked
   blanked_not was h = rw (lt-ltb (length was) n h)
 
-  pub blanked_is : {k : ℕ} {was is : List ℕ} → k ≤ n → n ≤ k → n ≤ length was → length is ≡ length was → Filled (λ j. x) k was is → is ≡ blanked n x was
+  pub blanked_is : (was : List ℕ) → n ≤ length was → replicate n x ++ drop n was ≡ blanked n x was
   unfolding blanked
-  blanked_is {k} {was} {is} a b h e f =
-      rw (le-ltb (length was) n h) (filled_one (λ j. x) n was is (replicate n x ++ drop n was) (e ∙ sym (front_long n (replicate n x) was (length-replicate n x) h)) (filled_end f a b) (blanked_front was h))
+  blanked_is was h = rw (le-ltb (length was) n h)
 
 module _ (n : ℕ) (from : List ℕ) where
-  copied_front : (was : List ℕ) → n ≤ length from → Filled (λ k. get_or from k 0) n was (take n from ++ drop n was)
+  pub copied_front : (was : List ℕ) → n ≤ length from → Filled (λ k. get_or from k 0) n was (take n from ++ drop n was)
   copied_front was h = front_filled (λ k. get_or from k 0) n (take n from) was (length-take-le n from h) (λ k l. get_or-take n from k 0 l)
 
   pub copied_filled : {was is : List ℕ} → n ≤ length from → n ≤ length was → is ≡ copied n from was → Filled (λ k. get_or from k 0) n was is
@@ -112,11 +100,17 @@ module _ (n : ℕ) (from : List ℕ) where
   unfolding copied
   copied_not was h = ⊎_elim (λ l. rw (lt-ltb (length from) n l)) (λ l. rw (lt-ltb (length was) n l, or-true (ltb (length from) n))) h
 
-  pub copied_is : {k : ℕ} {was is : List ℕ} → k ≤ n → n ≤ k → n ≤ length from → n ≤ length was → length is ≡ length was → Filled (λ j. get_or from j 0) k was is → is ≡ copied n from was
+  pub copied_is : (was : List ℕ) → n ≤ length from → n ≤ length was → take n from ++ drop n was ≡ copied n from was
   unfolding copied
-  copied_is {k} {was} {is} a b h l e f =
-      rw (le-ltb (length from) n h, le-ltb (length was) n l)
-      (filled_one (λ j. get_or from j 0) n was is (take n from ++ drop n was) (e ∙ sym (front_long n (take n from) was (length-take-le n from h) l)) (filled_end f a b) (copied_front was h))
+  copied_is was h l = rw (le-ltb (length from) n h, le-ltb (length was) n l)
+
+-- the front of a row as a part of a table
+pub copied_part : (n at : ℕ) (xs was : List ℕ) → at + n ≤ length xs → Filled (λ k. get_or xs (at + k) 0) n was (take (at + n - at) (drop at xs) ++ drop n was)
+copied_part n at xs was h =
+    let e : at + n - at ≡ n = omega arith in
+    rw e
+    (front_filled (λ k. get_or xs (at + k) 0) n (take n (drop at xs)) was (length-take-le n (drop at xs) (simp length-drop (omega arith)))
+    (λ k l. get_or-take n (drop at xs) k 0 l ∙ get_or-drop at xs k 0))
 
 -- a row of a table, of which each layer, value or slot has one
 pub row_part : (xs : List ℕ) (v k q : ℕ) → q < k → get_or (take k (drop (v * 64) xs)) q 0 ≡ get_or xs (v * 64 + q) 0

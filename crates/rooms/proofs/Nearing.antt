@@ -1,7 +1,8 @@
 -- The rows of the table by changes: each made from two loaded rows, and laid layer by layer, for one number of changes after the other.
 use mathlib.Core.Path.{◌≡◌, refl, ◌∙◌, subst}
 use mathlib.Core.Bool.{Bool, true, false, cond, ◌&&◌, and-false}
-use mathlib.Core.List.{List, [], ◌∷◌}
+use mathlib.Core.List.{List, [], ◌∷◌, ◌++◌}
+use Rattle.std.proofs.Common.{Some, None}
 use Prim.Native.Nat.{ℕ, zero, suc, ◌+◌, ◌*◌, ◌-◌, ◌≤◌, ◌<◌, max, min}
 use native.Mathlib.Omega.{arith}
 use native.Mathlib.Decide.{ℕ_discrete, dec_lt}
@@ -12,11 +13,11 @@ use borrow.Author.Tests.{lt-ltb, le-ltb, ltb-true}
 use Rattle.kinds.specs.Bits.{bit}
 use Rattle.meaning.specs.Meaning.{Rules, Place, places}
 use Rattle.meaning.specs.Bounds.{most_changes, top}
-use Rattle.rooms.specs.Tables.{copied, Filled, Net, Same, Frame, choices, best, leaves, need, need_at, rooms_by, asks, capped, before, room, layer, Laid, Needed, Bare}
-use Rattle.rooms.specs.Changes.{near_best, near_room, near_layer, row_for, NearLevels, Beside, Spare, LowRow, Fewer, near_needs, Fewest}
+use Rattle.rooms.specs.Tables.{Filled, Net, Same, Frame, choices, best, leaves, need, need_at, rooms_by, asks, capped, before, room, layer, Laid, Needed, Bare}
+use Rattle.rooms.specs.Changes.{near_best, near_room, near_layer, row_for, NearLevels, Beside, Spare, LowRow, Fewer, near_needs, Fewest, Finds}
 use Rattle.rooms.proofs.Rooms.{framed, choice_in, best_same}
 use Rattle.rooms.proofs.Falling.{best_low}
-use Rattle.rooms.proofs.Filling.{row_part, part_copied}
+use Rattle.rooms.proofs.Filling.{copied_part}
 use Rattle.rooms.proofs.Layering.{needed_none, needed_rooms, needed_at, needed_fill, needed_low, bare_fill, drop_places, drop_all, last_row}
 
 -- what two rows leave together, as the code makes it: the drawn value counts only if it is below V and the mask has it
@@ -40,14 +41,9 @@ module _ (a : Net) (fewer : ℕ → ℕ) (same : List ℕ) (vs m d : ℕ) {n : �
 pub fewer_not : {n i j : ℕ} {work fewer : List ℕ} → j ≡ 0 → Fewer n i j work fewer fewer
 fewer_not h = record { none = λ e. refl; some = λ l. absurd (omega arith) }
 
-pub fewer_some : {n : ℕ} (i j : ℕ) (work : List ℕ) {fewer is : List ℕ} → n ≤ 64 → j ≤ most_changes → row_for (i + 2) 0 * 64 ≤ length work → length fewer ≡ 256 → (j ≡ 0 → ⊥)
-    → is ≡ copied n (take (row_for (i + 1) (j - 1) * 64 + 64 - row_for (i + 1) (j - 1) * 64) (drop (row_for (i + 1) (j - 1) * 64) work)) fewer → Fewer n i j work fewer is
-fewer_some {n} i j work {fewer} {is} few h l e d c = record { none = λ z. absurd (d z); some = λ z. copy }
-  where
-    copy : Filled (λ q. get_or work (row_for (i + 1) (j - 1) * 64 + q) 0) n fewer is
-    copy =
-        let f = part_copied (row_for (i + 1) (j - 1) * 64) work few (omega arith) (omega arith) c in
-        record { done = λ q k. f.done q k ∙ row_part work (row_for (i + 1) (j - 1)) (row_for (i + 1) (j - 1) * 64 + 64 - row_for (i + 1) (j - 1) * 64) q (omega arith); left = f.left }
+pub fewer_some : {n : ℕ} (i j : ℕ) (work fewer : List ℕ) → n ≤ 64 → j ≤ most_changes → row_for (i + 2) 0 * 64 ≤ length work → (j ≡ 0 → ⊥)
+    → Fewer n i j work fewer (take (row_for (i + 1) (j - 1) * 64 + n - row_for (i + 1) (j - 1) * 64) (drop (row_for (i + 1) (j - 1) * 64) work) ++ drop n fewer)
+fewer_some {n} i j work fewer few h l d = record { none = λ z. absurd (d z); some = λ z. copied_part n (row_for (i + 1) (j - 1) * 64) work fewer (omega arith) }
 
 -- it serves on
 pub spare_none : (n j : ℕ) {x : ℕ} → x ≡ suc top → Spare n j (replicate 256 x)
@@ -229,7 +225,7 @@ module _ (f : Frame) (ds ms ls : List ℕ) where
           go o l (yes d) = rw d (omega (arith, start_room))
           go o l (no d) = s.none o (omega arith)
 
-      pub fewest_found : (k : ℕ) → j ≤ k → spent < x → Fewest f ds ms ls start spent k was now j
+      fewest_found : (k : ℕ) → j ≤ k → spent < x → Fewest f ds ms ls start spent k was now j
       fewest_found k h n =
           let m : min j k ≡ j = omega arith in
           record {
@@ -240,7 +236,13 @@ module _ (f : Frame) (ds ms ls : List ℕ) where
             some = λ z. omega (arith, start_room);
           }
 
-    pub fewest_missing : {was work : List ℕ} {j : ℕ} (k : ℕ) → j ≤ k + 1 → k < j → Searched start spent was j work → Fewest f ds ms ls start spent k was work j
+      pub finds_some : (k : ℕ) → j ≤ k → spent < x → Finds f ds ms ls start spent k was now (Some j)
+      finds_some k h n = record { some = λ o e. go o cc; none = λ e. cc }
+        where
+          go : (o : ℕ) → j ≡ o → (o ≤ k) × Fewest f ds ms ls start spent k was now o
+          go o d = rw (← d) (h, fewest_found k h n)
+
+    fewest_missing : {was work : List ℕ} {j : ℕ} (k : ℕ) → j ≤ k + 1 → k < j → Searched start spent was j work → Fewest f ds ms ls start spent k was work j
     fewest_missing {j = j} k h m s = record {
       rooms = record { right = λ l o q v w hq. s.rooms.right l o q v (omega arith) (λ z. absurd (omega arith)) hq };
       beside = s.beside (min j k) (omega arith);
@@ -248,6 +250,9 @@ module _ (f : Frame) (ds ms ls : List ℕ) where
       none = s.none;
       some = λ z. absurd (omega arith);
     }
+
+    pub finds_none : {was work : List ℕ} {j : ℕ} (k : ℕ) → j ≤ k + 1 → k + 1 ≤ j → Searched start spent was j work → Finds f ds ms ls start spent k was work None
+    finds_none {j = j} k h m s = let e : j ≡ suc k = omega arith in record { some = λ o d. cc; none = λ d. rw e at (fewest_missing k h (omega arith) s) }
 
 pub level_end : {f : Frame} {ds ms ls : List ℕ} {i j : ℕ} {work : List ℕ} → i ≤ 0 → NearLevels f ds ms ls j i work → NearLevels f ds ms ls j 0 work
 level_end {i = i} h y = let e : i ≡ 0 = omega arith in rw e at y

@@ -1,30 +1,47 @@
 -- A row lessened to what a mask's values need at the least, four values at once: so the rooms are raised to the best that they leave.
-use mathlib.Core.Path.{◌≡◌, refl, ◌∙◌}
+use mathlib.Core.Path.{◌≡◌, refl, ◌∙◌, subst}
 use mathlib.Core.Bool.{Bool, true, false, cond}
 use mathlib.Core.List.{List, [], ◌∷◌, ◌++◌}
-use Prim.Native.Nat.{ℕ, suc, ◌^◌, ◌≤◌, ◌<◌, min}
+use Prim.Native.Nat.{ℕ, zero, suc, ◌-◌, ◌^◌, ◌≤◌, ◌<◌, min}
 use native.Mathlib.Omega.{arith}
-use lib.ListN.{get_or}
+use lib.ListN.{get_or, length, drop}
+use lib.Seq.{drop-cons, drop-length}
+use Rattle.kinds.specs.declared.Value.{Value}
 use Rattle.kinds.specs.Bits.{width}
-use Rattle.meaning.specs.Bounds.{top}
-use Rattle.rooms.specs.Tables.{Net, Filled, choices, best, need, rooms_by, asks, Best, Lessens}
+use Rattle.meaning.specs.Bounds.{most_values, top}
+use Rattle.rooms.specs.Tables.{Net, Filled, choices, best, need, rooms_by, asks, least_by, numbers_of, Values, Best, Lessens}
 use Rattle.rooms.proofs.Choosing.{Through, through_none, through_on, through_last}
 
--- the least of two numbers, beside what stands in a row
-pub least_two : (v w x : ℕ) → min (min w v) x ≡ min w (min v x)
-least_two v w x = omega arith
+-- values that there can be, one more before the others
+pub values_none : Values []
+values_none = record { few = λ k h. absurd (omega arith) }
 
--- what some values need at the least, beside what stands in a row: nothing, where it is the first
-abbrev beside : Net → List ℕ → Bool → List ℕ → List ℕ → ℕ → ℕ
-beside a needs first row [] q = cond first (suc top) (get_or row q 0)
-beside a needs first row (v ∷ vs) q = min (asks a needs q v) (beside a needs first row vs q)
+pub values_more : {v : Value} {vs : List Value} → v.0 < most_values → Values vs → Values (v ∷ vs)
+values_more {v} {vs} h r = record { few = at }
+  where
+    at : (k : ℕ) → k < length (v ∷ vs) → (get_or (v ∷ vs) k (record { 0 = 0 })).0 < most_values
+    at zero l = h
+    at (suc k) l = r.few k (omega arith)
+
+-- what some values need, from the last one on
+module _ (a : Net) (needs : List ℕ) (q : ℕ) (values : List Value) (was : ℕ) where
+  pub least_none : (k : ℕ) → k ≡ length values → was ≡ least_by a needs q (numbers_of (drop k values)) was
+  least_none k e = rw (e, drop-length values)
+
+  pub least_more : (k x least : ℕ) → 0 < k → k ≤ length values → x ≡ asks a needs q (get_or values (k - 1) (record { 0 = 0 })).0
+      → least ≡ least_by a needs q (numbers_of (drop k values)) was → min x least ≡ least_by a needs q (numbers_of (drop (k - 1) values)) was
+  least_more k x least h l e d =
+      let f : k ≡ suc (k - 1) = omega arith in
+      let y : least ≡ least_by a needs q (numbers_of (drop (suc (k - 1)) values)) was = subst (λ (z : ℕ). least ≡ least_by a needs q (numbers_of (drop z values)) was) f d in
+      let m : k - 1 < length values = omega arith in
+      rw (drop-cons values (k - 1) (record { 0 = 0 }) m, e, y)
 
 module _ (a : Net) (needs : List ℕ) (n : ℕ) {first : Bool} {row : List ℕ} where
-  pub lessens : {row' : List ℕ} (vs : List ℕ) → Filled (beside a needs first row vs) n row row' → Lessens a (rooms_by needs) n first vs row row'
+  pub lessens : {row' : List ℕ} (vs : List ℕ) → Filled (λ q. least_by a needs q vs (cond first (suc top) (get_or row q 0))) n row row' → Lessens a (rooms_by needs) n first vs row row'
   unfolding best
   lessens vs f = record { goes = λ us b. record { is = λ q l. f.done q l ∙ go us b vs q l }; left = f.left }
     where
-      go : (us : List ℕ) → Best a (rooms_by needs) n first us row → (vs : List ℕ) (q : ℕ) → q < n → beside a needs first row vs q ≡ need (best a (rooms_by needs) q (vs ++ us))
+      go : (us : List ℕ) → Best a (rooms_by needs) n first us row → (vs : List ℕ) (q : ℕ) → q < n → least_by a needs q vs (cond first (suc top) (get_or row q 0)) ≡ need (best a (rooms_by needs) q (vs ++ us))
       go us b [] q l = b.is q l
       go us b (v ∷ vs) q l = omega (arith, go us b vs q l)
 

@@ -2,13 +2,15 @@
 use mathlib.Core.Path.{◌≡◌, refl, sym, ◌∙◌}
 use mathlib.Core.Bool.{Bool, true, false, false≢true}
 use mathlib.Core.List.{List}
+use Rattle.std.proofs.Common.{Option, None}
 use Prim.Native.Nat.{ℕ, ◌≤◌, ◌<◌}
+use Rattle.meaning.specs.Meaning.{arcs_of}
 use native.Mathlib.Omega.{arith}
 use native.Mathlib.Decide.{dec_le, ℕ_discrete}
 use lib.ListN.{length, take, length-take}
 use Rattle.meaning.specs.Bounds.{most_places, most_states, most_values, most_changes, table_size, work_size, plan_size}
-use Rattle.rooms.specs.Tables.{Sizes, Fits, Prepared, Prepares}
-use Rattle.rooms.specs.Changes.{PlanSizes, Nears, NearRuns}
+use Rattle.rooms.specs.Tables.{Net, frame, Same, Sizes, Fits, Prepared, Prepares}
+use Rattle.rooms.specs.Changes.{PlanSizes, Finds, NearRuns}
 
 -- lists of the same lengths have the same sizes
 pub sizes_same : {qs vs : ℕ} {t c ms ls work ts cs own caps now : List ℕ} → Sizes qs vs t c ms ls work → length ts ≡ length t → length cs ≡ length c
@@ -23,12 +25,6 @@ sizes_same r a b d e f = record {
   all_limits = e ∙ (r.all_limits ∙ sym d);
   all_work = omega (arith, d, f, r.all_work);
 }
-
-pub fits_not : {qs vs : ℕ} {t c ms ls work : List ℕ} → (Sizes qs vs t c ms ls work → ⊥) → Fits qs vs t c ms ls work false
-fits_not h = record { right = λ e. absurd (false≢true e); wrong = λ e. h }
-
-pub fits_all : {qs vs : ℕ} {t c ms ls work : List ℕ} → Sizes qs vs t c ms ls work → Fits qs vs t c ms ls work true
-fits_all s = record { right = λ e. s; wrong = λ e k. false≢true (sym e) }
 
 pub sizes_right_lem : (qs vs : ℕ) (t c ms ls work : List ℕ) → Dec (Sizes qs vs t c ms ls work)
 sizes_right_lem qs vs t c ms ls work =
@@ -95,9 +91,14 @@ plan_right qs vs t c ms ls ds k work =
     go (yes a) (yes b) (yes d) (no e) = no (λ s. e s.all_rows)
 
 pub nears_not : {qs vs accepting start spent k : ℕ} {t c ms ls ds work : List ℕ} → (PlanSizes qs vs t c ms ls ds k work → start < qs → ⊥)
-    → NearRuns qs vs t c accepting start spent ms ls ds k work work 18446744073709551615
-nears_not h = record { right = λ s l. absurd (h s l); wrong = λ e. (refl, refl) }
+    → NearRuns qs vs t c accepting start spent ms ls ds k work work None
+nears_not h = record { some = λ s l. absurd (h s l); none = λ s l. absurd (h s l); wrong = λ e. (refl, refl) }
 
-pub nears_is : {qs vs accepting start spent k made : ℕ} {t c ms ls ds work work' : List ℕ} → PlanSizes qs vs t c ms ls ds k work → start < qs
-    → Nears qs vs t c accepting start spent ms ls ds k work work' made → NearRuns qs vs t c accepting start spent ms ls ds k work work' made
-nears_is s l n = record { right = λ a b. n; wrong = λ h. absurd (h s l) }
+pub nears_is : {qs vs accepting start spent k : ℕ} {t c ms ls ds work work' : List ℕ} {found : Option ℕ} (net : Net) → PlanSizes qs vs t c ms ls ds k work → start < qs
+    → Same (arcs_of qs vs t c) vs net → Finds (frame net qs vs accepting) ds ms ls start spent k work work' found
+    → NearRuns qs vs t c accepting start spent ms ls ds k work work' found
+nears_is net s l a f = record {
+  some = λ h o j e. let y = f.some j e in (y.0, record { net = net; arcs = a; fewest = y.1 });
+  none = λ h o e. record { net = net; arcs = a; fewest = f.none e };
+  wrong = λ h. absurd (h s l);
+}

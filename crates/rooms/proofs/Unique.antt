@@ -3,6 +3,8 @@
 use mathlib.Core.Path.{◌≡◌, refl, sym, ap, subst, ◌∙◌}
 use mathlib.Core.Bool.{Bool, true, false}
 use mathlib.Core.List.{List}
+use mathlib.Core.Logic.{◌⊎◌, inl, inr}
+use Rattle.std.proofs.Common.{Option, Some, None}
 use Prim.Native.Nat.{ℕ, suc, ◌+◌, ◌*◌, ◌-◌, ◌/◌, ◌%◌, ◌≤◌, ◌<◌, min}
 use native.Mathlib.Omega.{arith}
 use native.Mathlib.Decide.{dec_le, dec_lt}
@@ -104,22 +106,35 @@ module _ (qs vs : ℕ) (ts cs : List ℕ) (accepting start spent : ℕ) (ms ls d
           let d : row_for (z / 512) (z / 64 % 8) * 64 + z % 64 ≡ z = omega arith in
           subst (λ (z : ℕ). get_or a z 0 ≡ get_or b z 0) d (go (z / 512) (z / 64 % 8) (z % 64) (omega arith) (omega arith) (omega arith) (dec_le (z / 64 % 8) (min x k)) (dec_lt (z % 64) qs))
 
-  pub fewest_unique : (a b : List ℕ) (x y : ℕ) → length a ≡ length work → length b ≡ length work
+  -- the number of changes of an outcome
+  made_of : {a : List ℕ} (x : Option ℕ) → NearRuns qs vs ts cs accepting start spent ms ls ds k work a x → PlanSizes qs vs ts cs ms ls ds k work → start < qs
+      → (m : ℕ) × Nears qs vs ts cs accepting start spent ms ls ds k work a m × (((m ≤ k) × (x ≡ Some m)) ⊎ ((k < m) × (x ≡ None)))
+  made_of (Some j) r p q = let u = r.some p q j refl in (j, u.1, inl (u.0, refl))
+  made_of None r p q = (suc k, r.none p q refl, inr (omega arith, refl))
+
+  pub fewest_unique : (a b : List ℕ) (x y : Option ℕ) → length a ≡ length work → length b ≡ length work
       → NearRuns qs vs ts cs accepting start spent ms ls ds k work a x → NearRuns qs vs ts cs accepting start spent ms ls ds k work b y → (x ≡ y) × (a ≡ b)
   fewest_unique a b x y e f r s = go (plan_right qs vs ts cs ms ls ds k work) (dec_lt start qs)
     where
-      same : x ≡ y → PlanSizes qs vs ts cs ms ls ds k work → Nears qs vs ts cs accepting start spent ms ls ds k work a x → Nears qs vs ts cs accepting start spent ms ls ds k work b y → (x ≡ y) × (a ≡ b)
-      same d p u v = (d, nears_one a b y e f p (rw d at u) v)
-
       wrong : (PlanSizes qs vs ts cs ms ls ds k work → start < qs → ⊥) → (x ≡ y) × (a ≡ b)
       wrong h = let u = r.wrong h in let v = s.wrong h in (u.0 ∙ sym v.0, u.1 ∙ sym v.1)
 
-      made : Dec (x < y) → Dec (y < x) → Nears qs vs ts cs accepting start spent ms ls ds k work a x → Nears qs vs ts cs accepting start spent ms ls ds k work b y → x ≡ y
+      made : {m n : ℕ} → Dec (m < n) → Dec (n < m) → Nears qs vs ts cs accepting start spent ms ls ds k work a m → Nears qs vs ts cs accepting start spent ms ls ds k work b n → m ≡ n
       made (yes h) l u v = absurd (made_not u v h)
       made (no h) (yes l) u v = absurd (made_not v u l)
       made (no h) (no l) u v = omega arith
 
+      same : {m n : ℕ} → m ≡ n → ((m ≤ k) × (x ≡ Some m)) ⊎ ((k < m) × (x ≡ None)) → ((n ≤ k) × (y ≡ Some n)) ⊎ ((k < n) × (y ≡ None)) → x ≡ y
+      same d (inl u) (inl v) = u.1 ∙ (ap (λ (z : ℕ). Some z) d ∙ sym v.1)
+      same d (inl u) (inr v) = absurd (omega arith)
+      same d (inr u) (inl v) = absurd (omega arith)
+      same d (inr u) (inr v) = u.1 ∙ sym v.1
+
       go : Dec (PlanSizes qs vs ts cs ms ls ds k work) → Dec (start < qs) → (x ≡ y) × (a ≡ b)
-      go (yes p) (yes q) = let u = r.right p q in let v = s.right p q in same (made (dec_lt x y) (dec_lt y x) u v) p u v
+      go (yes p) (yes q) =
+          let (m, u, i) = made_of x r p q in
+          let (n, v, j) = made_of y s p q in
+          let d : m ≡ n = made (dec_lt m n) (dec_lt n m) u v in
+          (same d i j, nears_one a b n e f p (rw d at u) v)
       go (no p) q = wrong (λ h l. p h)
       go (yes p) (no q) = wrong (λ h l. q l)

@@ -1,6 +1,6 @@
 -- The backward table by changes, as functions: the planner's. As in Tables, with a row for each number of changes. Inner: no entry point's
 -- contract cites this file.
-use Rattle.std.specs.Prelude.{cond, ◌&&◌, List, [], ◌∷◌, ◌≡◌, ℕ, suc, ◌+◌, ◌*◌, ◌-◌, ◌^◌, ◌≤◌, ◌<◌, max, min, ltb, length, get_or, take, drop}
+use Rattle.std.specs.Prelude.{Option, None, Some, cond, ◌&&◌, List, [], ◌∷◌, ◌≡◌, ℕ, suc, ◌+◌, ◌*◌, ◌-◌, ◌≤◌, ◌<◌, max, min, ltb, length, get_or, take, drop}
 use Rattle.kinds.specs.Bits.{bit}
 use Rattle.meaning.specs.Meaning.{arcs_of, Place, places}
 use Rattle.meaning.specs.Bounds.{most_states, most_changes, work_size, plan_size, top}
@@ -76,13 +76,19 @@ pub record Fewest (f : Frame) (ds ms ls : List ℕ) (start spent k : ℕ) (work 
   pub none : (o : ℕ) → o < made → near_layer f ds ms ls 0 (suc o) start ≤ spent
   pub some : made ≤ k → spent < near_layer f ds ms ls 0 (suc made) start
 
+-- the same for a number that was found, at most k, or none
+pub record Finds (f : Frame) (ds ms ls : List ℕ) (start spent k : ℕ) (work work' : List ℕ) (found : Option ℕ) : Type 0 where
+  pub some : (j : ℕ) → found ≡ Some j → (j ≤ k) × Fewest f ds ms ls start spent k work work' j
+  pub none : found ≡ None → Fewest f ds ms ls start spent k work work' (suc k)
+
 -- the same by a net that has the arcs of the rule set
 pub record Nears (qs vs : ℕ) (ts cs : List ℕ) (accepting start spent : ℕ) (ms ls ds : List ℕ) (k : ℕ) (work work' : List ℕ) (made : ℕ) : Type 0 where
   pub net : Net
   pub arcs : Same (arcs_of qs vs ts cs) vs net
   pub fewest : Fewest (frame net qs vs accepting) ds ms ls start spent k work work' made
 
--- the same for whatever is lent: where a size is wrong, nothing is written, and what is given is more than any number of changes
-pub record NearRuns (qs vs : ℕ) (ts cs : List ℕ) (accepting start spent : ℕ) (ms ls ds : List ℕ) (k : ℕ) (work work' : List ℕ) (made : ℕ) : Type 0 where
-  pub right : PlanSizes qs vs ts cs ms ls ds k work → start < qs → Nears qs vs ts cs accepting start spent ms ls ds k work work' made
-  pub wrong : (PlanSizes qs vs ts cs ms ls ds k work → start < qs → ⊥) → (made ≡ 2 ^ 64 - 1) × (work' ≡ work)
+-- the same for whatever is lent: where a size is wrong, nothing is written, and none is found
+pub record NearRuns (qs vs : ℕ) (ts cs : List ℕ) (accepting start spent : ℕ) (ms ls ds : List ℕ) (k : ℕ) (work work' : List ℕ) (found : Option ℕ) : Type 0 where
+  pub some : PlanSizes qs vs ts cs ms ls ds k work → start < qs → (j : ℕ) → found ≡ Some j → (j ≤ k) × Nears qs vs ts cs accepting start spent ms ls ds k work work' j
+  pub none : PlanSizes qs vs ts cs ms ls ds k work → start < qs → found ≡ None → Nears qs vs ts cs accepting start spent ms ls ds k work work' (suc k)
+  pub wrong : (PlanSizes qs vs ts cs ms ls ds k work → start < qs → ⊥) → (found ≡ None) × (work' ≡ work)

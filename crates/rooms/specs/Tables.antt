@@ -1,5 +1,6 @@
 -- The backward table, as functions. Inner: no entry point's contract cites this file; proofs/ shows what the table means.
-use Rattle.std.specs.Prelude.{Bool, true, false, cond, ◌&&◌, ◌||◌, List, [], ◌∷◌, ◌++◌, ◌≡◌, ℕ, zero, suc, ◌+◌, ◌*◌, ◌-◌, ◌≤◌, ◌<◌, min, max, ltb, length, get_or, replicate, take, drop}
+use Rattle.std.specs.Prelude.{Bool, true, false, cond, ◌&&◌, ◌||◌, List, [], ◌∷◌, ◌++◌, map, ◌≡◌, ℕ, zero, suc, ◌+◌, ◌*◌, ◌-◌, ◌≤◌, ◌<◌, min, max, ltb, length, get_or, replicate, take, drop}
+use Rattle.kinds.specs.declared.Value.{Value}
 use Rattle.kinds.specs.Bits.{width, bit}
 pub use Rattle.meaning.specs.Lists.{Filled}
 use Rattle.meaning.specs.Meaning.{Arcs, arcs_of, target, cost, Place, places}
@@ -72,6 +73,18 @@ rooms_by needs t = suc top - need_at needs t
 -- what a state needs by its arc on a value, where `needs` has the needs one place on
 abbrev pub asks : Net → List ℕ → ℕ → ℕ → ℕ
 asks a needs q v = need_at needs (a.to q v) + a.fee q v
+
+-- values by their numbers, and each of them one that there can be
+abbrev pub numbers_of : List Value → List ℕ
+numbers_of values = map (λ v. v.0) values
+
+pub record Values (values : List Value) : Type 0 where
+  pub few : (k : ℕ) → k < length values → (get_or values k (record { 0 = 0 })).0 < most_values
+
+-- the least of a number and what some values need
+abbrev pub least_by : Net → List ℕ → ℕ → List ℕ → ℕ → ℕ
+least_by a needs q [] x = x
+least_by a needs q (v ∷ vs) x = min (asks a needs q v) (least_by a needs q vs x)
 
 -- numbers of states, none above the top but by one
 pub record Low (n : ℕ) (row : List ℕ) : Type 0 where
@@ -151,11 +164,12 @@ pub data Clear (least other rise : ℕ) : Type 0 where
   free : other ≡ 0 → Clear least other rise
   high : other + rise ≤ least → Clear least other rise
 
--- a layer that is another one with a rise, if it is no greater than a rise can be: the same mask, the row behind it with the rise, and no limit in the way
+-- a layer that is another one with a rise: the same mask, the row behind it with the rise, and no limit in the way
 pub record LikeLayer (n rise : ℕ) (ms ls : List ℕ) (i like : ℕ) (needs work : List ℕ) : Type 0 where
-  pub mask : rise ≤ suc top → get_or ms i 0 ≡ get_or ms like 0
-  pub clear : rise ≤ suc top → Clear (top - before ls i) (top - before ls like) rise
-  pub row : rise ≤ suc top → (q : ℕ) → q < n → get_or needs q 0 ≡ min (suc top) (get_or work ((like + 1) * most_states + q) 0 + rise)
+  pub few : rise ≤ suc top
+  pub mask : get_or ms i 0 ≡ get_or ms like 0
+  pub clear : Clear (top - before ls i) (top - before ls like) rise
+  pub row : (q : ℕ) → q < n → get_or needs q 0 ≡ min (suc top) (get_or work ((like + 1) * most_states + q) 0 + rise)
 
 -- layer i laid before the layers behind it, whatever states accept
 pub record Lays (a : Net) (qs vs : ℕ) (ms ls : List ℕ) (i : ℕ) (needs work needs' work' : List ℕ) : Type 0 where

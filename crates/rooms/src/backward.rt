@@ -1,9 +1,9 @@
 // The backward pass: the needs of all layers, each behind the limit of the step into it. The need of a state is how far its room lies below
 // the greatest; with no limit in the way it is what the rest of a roster costs at the least.
-ghost use Rattle.std.specs.Prelude.{◌≡◌, true, cond, [], ◌∷◌, suc, ◌+◌, ◌*◌, ◌-◌, ◌≤◌, ◌<◌, min, max, length, get_or};
+ghost use Rattle.std.specs.Prelude.{◌≡◌, ℕ, Some, true, cond, [], ◌∷◌, suc, ◌+◌, ◌*◌, ◌-◌, ◌≤◌, ◌<◌, min, max, length, get_or};
 ghost use Rattle.kinds.specs.Bits.{bit};
 ghost use Rattle.meaning.specs.Bounds.{most_places, most_states, most_values, table_size, top};
-ghost use Rattle.rooms.specs.Tables.{Filled, turned, choices, best, need, asks, rooms_by, Low, Lessens, up_to_none, before, frame, Layers, LowBehind, Laid, Outside, Clear, LikeLayer, Lays, Sizes, Fits, Prepares, Bare, Serves};
+ghost use Rattle.rooms.specs.Tables.{Filled, turned, choices, best, need, asks, least_by, numbers_of, Values, rooms_by, Low, Lessens, up_to_none, before, frame, Layers, LowBehind, Laid, Outside, Clear, LikeLayer, Lays, Sizes, Fits, Prepares, Bare, Serves};
 
 use crate::turn::turned_at;
 use crate::{rows, turn};
@@ -11,7 +11,6 @@ use kinds::{Mask, State, Value};
 use ranks::{pull, rank};
 use rules::bounds;
 use rules::bounds::TOP;
-use rules::numbers::lesser;
 
 // As many numbers as a target byte can name.
 pub const BYTES: usize = 256;
@@ -33,14 +32,13 @@ pub(crate) fn ends(states: usize, accepting: u64, row: &mut [u32])
     requires { (states ≤ most_states) × (states ≤ length row.old) }
     ensures { Filled (λ q. cond (bit accepting q) 0 (suc top)) states row.old row.new }
 {
-    let mut q = State(0);
-    while (q.0 as usize) < states {
-        row[q.0 as usize] = ending(accepting, State(q.0));
-        q = State(q.0 + 1);
+    for q in 0..states {
+        row[q] = ending(accepting, State(q as u8));
     }
 }
 
-// What a state needs by its arc on a value.
+// What a state needs by its arc on a value. The tables are lent each by itself, here and above: in a struct they are not known to lie apart
+// from the row that is written, which takes up to a ninth more instructions.
 pub(crate) fn need_by(targets: &[u8], costs: &[u16], needs: &[u32], q: State, v: Value) -> u32
     requires { (length targets.now ≡ table_size) × (length costs.now ≡ table_size) × (256 ≤ length needs.now) × Low 256 needs.now × (q.0 < most_states) × (v.0 < most_values) }
     ensures { result ≡ asks (turned targets.now costs.now) needs.now q.0 v.0 }
@@ -49,154 +47,67 @@ pub(crate) fn need_by(targets: &[u8], costs: &[u16], needs: &[u32], q: State, v:
     needs[targets[at] as usize] + (costs[at] as u32)
 }
 
-// The lesser of what two values need.
-pub(crate) fn least_of(
+// The least of a number and what some values need by a state's arcs on them. How many they are is known where it is compiled, so that the
+// loop goes out.
+pub(crate) fn least_by<const N: usize>(
     targets: &[u8],
     costs: &[u16],
     needs: &[u32],
     q: State,
-    v: Value,
-    w: Value,
+    values: &[Value; N],
+    was: u32,
 ) -> u32
-    requires { (length targets.now ≡ table_size) × (length costs.now ≡ table_size) × (256 ≤ length needs.now) × Low 256 needs.now × (q.0 < most_states) × (v.0 < most_values) × (w.0 < most_values) }
-    ensures { result ≡ min (asks (turned targets.now costs.now) needs.now q.0 w.0) (asks (turned targets.now costs.now) needs.now q.0 v.0) }
+    requires { (length targets.now ≡ table_size) × (length costs.now ≡ table_size) × (256 ≤ length needs.now) × Low 256 needs.now × (q.0 < most_states) × Values values.now }
+    ensures { result ≡ least_by (turned targets.now costs.now) needs.now q.0 (numbers_of values.now) was }
 {
-    let one = need_by(targets, costs, needs, State(q.0), v);
-    lesser(need_by(targets, costs, needs, q, w), one)
+    let mut least = was;
+    for k in (0..N).rev() {
+        least = need_by(targets, costs, needs, q, values[k]).min(least);
+    }
+    least
 }
 
-// A need that is the first of its row, or beside the one there.
-pub(crate) fn beside(first: bool, need: u32, was: u32) -> u32
-    ensures { result ≡ min need (cond first (suc top) was) }
+// A row lessened to what some values need, or filled with it, where it is the first: it is read and written once for all of them.
+pub(crate) fn lessen<const N: usize>(
+    first: bool,
+    states: usize,
+    targets: &[u8],
+    costs: &[u16],
+    values: &[Value; N],
+    needs: &[u32],
+    row: &mut [u32],
+)
+    requires { (states ≤ most_states) × (length targets.now ≡ table_size) × (length costs.now ≡ table_size) × Values values.now × (256 ≤ length needs.now) × Low 256 needs.now × (states ≤ length row.old) }
+    ensures { Filled (λ q. least_by (turned targets.now costs.now) needs.now q (numbers_of values.now) (cond first (suc top) (get_or row.old q 0))) states row.old row.new }
+{
+    for q in 0..states {
+        let was = if first { TOP + 1 } else { row[q] };
+        row[q] = least_by(targets, costs, needs, State(q as u8), values, was);
+    }
+}
+
+// The same. Whether nothing is in the row yet is written out at each call, so that it is not tested at every state.
+pub(crate) fn lessen_by<const N: usize>(
+    first: bool,
+    states: usize,
+    targets: &[u8],
+    costs: &[u16],
+    values: &[Value; N],
+    needs: &[u32],
+    row: &mut [u32],
+)
+    requires { (states ≤ most_states) × (length targets.now ≡ table_size) × (length costs.now ≡ table_size) × Values values.now × (256 ≤ length needs.now) × Low 256 needs.now × (states ≤ length row.old) }
+    ensures { Lessens (turned targets.now costs.now) (rooms_by needs.now) states first (numbers_of values.now) row.old row.new }
 {
     if first {
-        lesser(need, TOP + 1)
+        lessen(true, states, targets, costs, values, needs, row);
     } else {
-        lesser(need, was)
+        lessen(false, states, targets, costs, values, needs, row);
     }
 }
 
-// A row lessened to what one value needs, or filled with it, where it is the first.
-pub(crate) fn lessen(
-    first: bool,
-    states: usize,
-    targets: &[u8],
-    costs: &[u16],
-    v: Value,
-    needs: &[u32],
-    row: &mut [u32],
-)
-    requires { (states ≤ most_states) × (length targets.now ≡ table_size) × (length costs.now ≡ table_size) × (v.0 < most_values) × (256 ≤ length needs.now) × Low 256 needs.now × (states ≤ length row.old) }
-    ensures { Filled (λ q. min (asks (turned targets.now costs.now) needs.now q v.0) (cond first (suc top) (get_or row.old q 0))) states row.old row.new }
-{
-    let mut q = State(0);
-    while (q.0 as usize) < states {
-        let at = q.0 as usize;
-        let need = need_by(targets, costs, needs, State(q.0), Value(v.0));
-        row[at] = beside(first, need, row[at]);
-        q = State(q.0 + 1);
-    }
-}
-
-// A row lessened to what two values need, likewise: it is read and written once for both.
-pub(crate) fn lessen_two(
-    first: bool,
-    states: usize,
-    targets: &[u8],
-    costs: &[u16],
-    v: Value,
-    w: Value,
-    needs: &[u32],
-    row: &mut [u32],
-)
-    requires { (states ≤ most_states) × (length targets.now ≡ table_size) × (length costs.now ≡ table_size) × (v.0 < most_values) × (w.0 < most_values) × (256 ≤ length needs.now) × Low 256 needs.now × (states ≤ length row.old) }
-    ensures { Filled (λ q. min (asks (turned targets.now costs.now) needs.now q w.0) (min (asks (turned targets.now costs.now) needs.now q v.0) (cond first (suc top) (get_or row.old q 0)))) states row.old row.new }
-{
-    let mut q = State(0);
-    while (q.0 as usize) < states {
-        let at = q.0 as usize;
-        let two = least_of(targets, costs, needs, State(q.0), Value(v.0), Value(w.0));
-        row[at] = beside(first, two, row[at]);
-        q = State(q.0 + 1);
-    }
-}
-
-// A row lessened to what three values need, likewise.
-pub(crate) fn lessen_three(
-    first: bool,
-    states: usize,
-    targets: &[u8],
-    costs: &[u16],
-    v: Value,
-    w: Value,
-    x: Value,
-    needs: &[u32],
-    row: &mut [u32],
-)
-    requires { (states ≤ most_states) × (length targets.now ≡ table_size) × (length costs.now ≡ table_size) × (v.0 < most_values) × (w.0 < most_values) × (x.0 < most_values) × (256 ≤ length needs.now) × Low 256 needs.now × (states ≤ length row.old) }
-    ensures { Filled (λ q. min (asks (turned targets.now costs.now) needs.now q x.0) (min (asks (turned targets.now costs.now) needs.now q w.0) (min (asks (turned targets.now costs.now) needs.now q v.0) (cond first (suc top) (get_or row.old q 0))))) states row.old row.new }
-{
-    let mut q = State(0);
-    while (q.0 as usize) < states {
-        let at = q.0 as usize;
-        let two = least_of(targets, costs, needs, State(q.0), Value(v.0), Value(w.0));
-        let need = need_by(targets, costs, needs, State(q.0), Value(x.0));
-        row[at] = beside(first, lesser(need, two), row[at]);
-        q = State(q.0 + 1);
-    }
-}
-
-// A row lessened to what four values need, likewise.
-pub(crate) fn lessen_four(
-    first: bool,
-    states: usize,
-    targets: &[u8],
-    costs: &[u16],
-    v: Value,
-    w: Value,
-    x: Value,
-    y: Value,
-    needs: &[u32],
-    row: &mut [u32],
-)
-    requires { (states ≤ most_states) × (length targets.now ≡ table_size) × (length costs.now ≡ table_size) × (v.0 < most_values) × (w.0 < most_values) × (x.0 < most_values) × (y.0 < most_values) × (256 ≤ length needs.now) × Low 256 needs.now × (states ≤ length row.old) }
-    ensures { Filled (λ q. min (asks (turned targets.now costs.now) needs.now q y.0) (min (asks (turned targets.now costs.now) needs.now q x.0) (min (asks (turned targets.now costs.now) needs.now q w.0) (min (asks (turned targets.now costs.now) needs.now q v.0) (cond first (suc top) (get_or row.old q 0)))))) states row.old row.new }
-{
-    let mut q = State(0);
-    while (q.0 as usize) < states {
-        let at = q.0 as usize;
-        let two = least_of(targets, costs, needs, State(q.0), Value(v.0), Value(w.0));
-        let others = least_of(targets, costs, needs, State(q.0), Value(x.0), Value(y.0));
-        row[at] = beside(first, lesser(two, others), row[at]);
-        q = State(q.0 + 1);
-    }
-}
-
-// A row lessened to what four values need. Whether nothing is in the row yet is written out at each call, so that it is not tested at every
-// state.
-pub(crate) fn lessen_by_four(
-    first: bool,
-    states: usize,
-    targets: &[u8],
-    costs: &[u16],
-    v: Value,
-    w: Value,
-    x: Value,
-    y: Value,
-    needs: &[u32],
-    row: &mut [u32],
-)
-    requires { (states ≤ most_states) × (length targets.now ≡ table_size) × (length costs.now ≡ table_size) × (v.0 < most_values) × (w.0 < most_values) × (x.0 < most_values) × (y.0 < most_values) × (256 ≤ length needs.now) × Low 256 needs.now × (states ≤ length row.old) }
-    ensures { Lessens (turned targets.now costs.now) (rooms_by needs.now) states first (y.0 ∷ (x.0 ∷ (w.0 ∷ (v.0 ∷ [])))) row.old row.new }
-{
-    if first {
-        lessen_four(true, states, targets, costs, v, w, x, y, needs, row);
-    } else {
-        lessen_four(false, states, targets, costs, v, w, x, y, needs, row);
-    }
-}
-
-// A row lessened to what the last values of a mask need, three at most: the width stands for none, and nothing behind it counts.
+// A row lessened to what the last values of a mask need, three at most: the width stands for none, and nothing behind it counts. With Options
+// for them a filter of 16 states takes 3 % more.
 pub(crate) fn lessen_rest(
     first: bool,
     states: usize,
@@ -213,31 +124,19 @@ pub(crate) fn lessen_rest(
 {
     if Mask::WIDTH <= v.0 {
         if first {
-            rows::blank(states, TOP + 1, row);
+            row[..states].fill(TOP + 1);
         }
         return;
     }
     if Mask::WIDTH <= w.0 {
-        if first {
-            lessen(true, states, targets, costs, v, needs, row);
-        } else {
-            lessen(false, states, targets, costs, v, needs, row);
-        }
+        lessen_by(first, states, targets, costs, &[v], needs, row);
         return;
     }
     if Mask::WIDTH <= x.0 {
-        if first {
-            lessen_two(true, states, targets, costs, v, w, needs, row);
-        } else {
-            lessen_two(false, states, targets, costs, v, w, needs, row);
-        }
+        lessen_by(first, states, targets, costs, &[w, v], needs, row);
         return;
     }
-    if first {
-        lessen_three(true, states, targets, costs, v, w, x, needs, row);
-    } else {
-        lessen_three(false, states, targets, costs, v, w, x, needs, row);
-    }
+    lessen_by(first, states, targets, costs, &[x, w, v], needs, row);
 }
 
 // The row of a layer, from the needs of the next: the least that the mask's values need, four at a time.
@@ -255,6 +154,7 @@ pub(crate) fn fill_row(
 {
     let mut first = true;
     let mut left = mask.meet(Mask::full(values));
+    // no `for`: the values of a mask are taken off it, four at a time
     loop {
         let v = left.smallest();
         let second = left.rest();
@@ -262,12 +162,12 @@ pub(crate) fn fill_row(
         let third = second.rest();
         let x = third.smallest();
         let fourth = third.rest();
-        if fourth.0 == Mask::EMPTY.0 {
+        if fourth == Mask::EMPTY {
             lessen_rest(first, states, targets, costs, v, w, x, needs, row);
             return;
         }
         let y = fourth.smallest();
-        lessen_by_four(first, states, targets, costs, v, w, x, y, needs, row);
+        lessen_by(first, states, targets, costs, &[y, x, w, v], needs, row);
         first = false;
         left = fourth.rest();
     }
@@ -281,7 +181,7 @@ pub(crate) fn least_at(limits: &[u32], i: usize) -> u32
     if i == 0 {
         return 0;
     }
-    rows::less(TOP, limits[i - 1])
+    TOP.saturating_sub(limits[i - 1])
 }
 
 // The row of layer i, laid as that of the layer `like` with a rise, behind the limit of the step into it, and loaded by itself.
@@ -299,12 +199,10 @@ pub(crate) fn lay_like(
 {
     let from = like * bounds::MOST_STATES;
     let at = i * bounds::MOST_STATES;
-    let mut q: usize = 0;
-    while q < states {
-        let need = rows::greater(least, lesser(TOP + 1, work[from + q] + rise));
-        work[at + q] = need;
-        needs[q] = need;
-        q += 1;
+    for k in 0..states {
+        let need = least.max((TOP + 1).min(work[from + k] + rise));
+        work[at + k] = need;
+        needs[k] = need;
     }
 }
 
@@ -322,7 +220,7 @@ pub(crate) fn make_row(
     requires { (states ≤ most_states) × (values ≤ most_values) × (length targets.now ≡ table_size) × (length costs.now ≡ table_size) × (length needs.now ≡ 256) × Low 256 needs.now × Bare states needs.now × (states ≤ length row.old) × (length arcs.now ≡ table_size → Serves (turned targets.now costs.now) states values arcs.now) }
     ensures { Filled (λ q. need (best (turned targets.now costs.now) (rooms_by needs.now) q (choices values mask.0))) states row.old row.new }
 {
-    if pull::serves(values, Mask(mask.0), arcs) {
+    if pull::serves(values, mask, arcs) {
         pull::pull(states, needs, arcs, row);
         return;
     }
@@ -381,19 +279,15 @@ pub(crate) fn fill_last(
 // How far apart two layers may lie of which one is laid as the other was.
 pub const MOST_SPAN: usize = 8;
 
-// A state that has room, where there is one.
-pub(crate) fn roomy(states: usize, needs: &[u32]) -> State
+// A state that has room; the first one, where there is none.
+pub(crate) fn roomy(states: usize, needs: &[u32]) -> usize
     requires { (states ≤ most_states) × (states ≤ length needs.now) }
-    ensures { result.0 < most_states }
+    ensures { result < most_states }
 {
-    let mut q = State(0);
-    while (q.0 as usize) + 1 < states {
-        if needs[q.0 as usize] <= TOP {
-            return q;
-        }
-        q = State(q.0 + 1);
-    }
-    q
+    needs[..states]
+        .iter()
+        .position(|need| *need <= TOP)
+        .unwrap_or(0)
 }
 
 // How much more a state with room needs than in the row behind an earlier laid layer.
@@ -401,9 +295,9 @@ pub(crate) fn rise_from(states: usize, like: usize, needs: &[u32], work: &[u32])
     requires { (states ≤ most_states) × (length needs.now ≡ 256) × Low 256 needs.now × (like < most_places) × ((like + 1) * most_states + most_states ≤ length work.now) }
     ensures { result ≤ suc top }
 {
-    let q = roomy(states, needs).0 as usize;
+    let q = roomy(states, needs);
     let at = (like + 1) * bounds::MOST_STATES + q;
-    rows::less(needs[q], work[at])
+    needs[q].saturating_sub(work[at])
 }
 
 // Whether the least need that another layer was cut at is out of the way, once that layer has risen: it has no limit, or that need has not
@@ -412,14 +306,11 @@ pub(crate) fn clear_of(least: u32, other: u32, rise: u32) -> bool
     requires { (other ≤ suc top) × (rise ≤ suc top) }
     ensures { result ≡ true → Clear least other rise }
 {
-    if other == 0 {
-        return true;
-    }
-    other + rise <= least
+    other == 0 || other + rise <= least
 }
 
 // How far the needs of layer i lie above those of the layer `like`, if they are those with a rise: one mask leads from both, what lies behind
-// them differs by the rise alone, and the limit of `like` is out of the way. Else more than any rise.
+// them differs by the rise alone, and the limit of `like` is out of the way.
 pub(crate) fn rise_to(
     states: usize,
     masks: &[u16],
@@ -429,23 +320,23 @@ pub(crate) fn rise_to(
     like: usize,
     needs: &[u32],
     work: &[u32],
-) -> u32
+) -> Option<u32>
     requires { (states ≤ most_states) × (least ≡ top - before limits.now i) × (i < like) × (like < length masks.now) × (length masks.now ≤ most_places) × (length limits.now ≡ length masks.now) × (length needs.now ≡ 256) × Low 256 needs.now × ((like + 1) * most_states + most_states ≤ length work.now) × LowBehind states i (length masks.now) work.now }
-    ensures { LikeLayer states result masks.now limits.now i like needs.now work.now }
+    ensures { (rise : ℕ) → result ≡ Some rise → LikeLayer states rise masks.now limits.now i like needs.now work.now }
 {
     if masks[i] != masks[like] {
-        return TOP + 2;
+        return None;
     }
     let rise = rise_from(states, like, needs, work);
     if !clear_of(least, least_at(limits, like), rise) {
-        return TOP + 2;
+        return None;
     }
     let at = (like + 1) * bounds::MOST_STATES;
     let end = at + bounds::MOST_STATES;
     if rows::risen(states, rise, &work[at..end], needs) {
-        return rise;
+        return Some(rise);
     }
-    TOP + 2
+    None
 }
 
 // Lays layer i: as the layer that lies a span behind it, if they are alike, which with equal masks they soon are; else from the next
@@ -469,8 +360,7 @@ pub(crate) fn lay(
     let least = least_at(limits, i);
     let like = i + span;
     if like < masks.len() {
-        let rise = rise_to(states, masks, limits, least, i, like, needs, work);
-        if rise <= TOP + 1 {
+        if let Some(rise) = rise_to(states, masks, limits, least, i, like, needs, work) {
             lay_like(states, like, rise, least, i, needs, work);
             return span;
         }
@@ -506,11 +396,17 @@ pub(crate) fn fill_needs(
     ensures { Layers (frame (turned targets.now costs.now) states values accepting) masks.now limits.now 0 work.new × Outside states (suc (length masks.now)) work.old work.new }
 {
     let mut needs = [TOP + 1; BYTES];
-    let mut i = masks.len();
-    fill_last(states, accepting, least_at(limits, i), i, &mut needs, work);
+    let last = masks.len();
+    fill_last(
+        states,
+        accepting,
+        least_at(limits, last),
+        last,
+        &mut needs,
+        work,
+    );
     let mut span: usize = 1;
-    while 0 < i {
-        i -= 1;
+    for i in (0..last).rev() {
         span = lay(
             states, values, targets, costs, arcs, masks, limits, i, span, &mut needs, work,
         );
@@ -529,31 +425,14 @@ pub(crate) fn fits(
 ) -> bool
     ensures { Fits states values targets.now costs.now masks.now limits.now work.now result }
 {
-    if bounds::MOST_STATES < states {
-        return false;
-    }
-    if bounds::MOST_VALUES < values {
-        return false;
-    }
-    if targets.len() != bounds::TABLE_SIZE {
-        return false;
-    }
-    if costs.len() != bounds::TABLE_SIZE {
-        return false;
-    }
-    if masks.len() == 0 {
-        return false;
-    }
-    if bounds::MOST_PLACES < masks.len() {
-        return false;
-    }
-    if limits.len() != masks.len() {
-        return false;
-    }
-    if work.len() != (masks.len() + 1) * bounds::MOST_STATES {
-        return false;
-    }
-    true
+    states <= bounds::MOST_STATES
+        && values <= bounds::MOST_VALUES
+        && targets.len() == bounds::TABLE_SIZE
+        && costs.len() == bounds::TABLE_SIZE
+        && masks.len() != 0
+        && masks.len() <= bounds::MOST_PLACES
+        && limits.len() == masks.len()
+        && work.len() == (masks.len() + 1) * bounds::MOST_STATES
 }
 
 // The whole backward pass: the tables turned, the arcs in rows by rising cost, if there is a table for them, and the needs of all layers. Where something lent has not its size, all stays; says which.
@@ -572,13 +451,10 @@ pub fn prepare(
 ) -> bool
     ensures { Prepares states values targets.now costs.now accepting masks.now limits.now to.old fee.old arcs.old work.old to.new fee.new arcs.new work.new result }
 {
-    if !fits(states, values, targets, costs, masks, limits, work) {
-        return false;
-    }
-    if to.len() != bounds::TABLE_SIZE {
-        return false;
-    }
-    if fee.len() != bounds::TABLE_SIZE {
+    if !fits(states, values, targets, costs, masks, limits, work)
+        || to.len() != bounds::TABLE_SIZE
+        || fee.len() != bounds::TABLE_SIZE
+    {
         return false;
     }
     turn::turn(states, values, targets, costs, to, fee);

@@ -3,7 +3,7 @@
 ghost use Rattle.std.specs.Prelude.{◌≡◌, true, false, suc, ◌+◌, ◌*◌, ◌-◌, ◌≤◌, ◌<◌, length};
 ghost use Rattle.meaning.specs.Bounds.{most_places, most_states, most_values, most_changes, table_size};
 ghost use Rattle.rooms.specs.Tables.{Filled, turned, need, rooms_by, Low, Laid, Bare, Serves, frame};
-ghost use Rattle.rooms.specs.Changes.{near_best, near_needs, row_for, NearLevels, Beside, Spare, LowRow, Fewer, Fewest, PlanSizes, NearRuns};
+ghost use Rattle.rooms.specs.Changes.{near_best, near_needs, row_for, NearLevels, Beside, Spare, LowRow, Fewer, Finds, PlanSizes, NearRuns};
 
 use crate::backward::BYTES;
 use crate::{backward, rows, turn};
@@ -32,21 +32,9 @@ pub(crate) fn near_row(
     requires { (states ≤ most_states) × (values ≤ most_values) × (length targets.now ≡ table_size) × (length costs.now ≡ table_size) × (length fewer.now ≡ 256) × Low 256 fewer.now × Bare states fewer.now × (length same.now ≡ 256) × Low 256 same.now × (states ≤ length row.old) × (length arcs.now ≡ table_size → Serves (turned targets.now costs.now) states values arcs.now) }
     ensures { Filled (λ q. need (near_best (turned targets.now costs.now) (rooms_by fewer.now) (rooms_by same.now) values mask.0 drawn.0 q)) states row.old row.new }
 {
-    backward::make_row(
-        states,
-        values,
-        targets,
-        costs,
-        arcs,
-        Mask(mask.0),
-        fewer,
-        row,
-    );
-    if values <= (drawn.0 as usize) {
-        return;
-    }
-    if mask.has(Value(drawn.0)) {
-        backward::lessen(false, states, targets, costs, drawn, same, row);
+    backward::make_row(states, values, targets, costs, arcs, mask, fewer, row);
+    if usize::from(drawn) < values && mask.has(drawn) {
+        backward::lessen(false, states, targets, costs, &[drawn], same, row);
     }
 }
 
@@ -60,8 +48,8 @@ pub(crate) fn load_fewer(states: usize, i: usize, j: usize, work: &[u32], fewer:
         return;
     }
     let at = ((i + 1) * ROWS + (j - 1)) * bounds::MOST_STATES;
-    let end = at + bounds::MOST_STATES;
-    rows::copy(states, &work[at..end], fewer);
+    let end = at + states;
+    fewer[..states].copy_from_slice(&work[at..end]);
 }
 
 // The row of layer i for at most j changes, laid in the work table and loaded by itself.
@@ -120,17 +108,16 @@ pub(crate) fn fill_level(
 {
     let mut fewer = [TOP + 1; BYTES];
     let mut needs = [TOP + 1; BYTES];
-    let mut i = masks.len();
+    let last = masks.len();
     backward::fill_last(
         states,
         accepting,
-        backward::least_at(limits, i),
-        i * ROWS + j,
+        backward::least_at(limits, last),
+        last * ROWS + j,
         &mut needs,
         work,
     );
-    while 0 < i {
-        i -= 1;
+    for i in (0..last).rev() {
         let least = backward::least_at(limits, i);
         lay_row(
             states,
@@ -151,7 +138,7 @@ pub(crate) fn fill_level(
 }
 
 // The rows of all layers for at most 0, 1, .. changes, up to the first number that the start has room with, or the most. Gives that
-// number; more than the most, where there is none.
+// number, where there is one.
 pub(crate) fn fill_levels(
     states: usize,
     values: usize,
@@ -166,22 +153,20 @@ pub(crate) fn fill_levels(
     drawn: &[u8],
     most: usize,
     work: &mut [u32],
-) -> usize
+) -> Option<usize>
     requires { PlanSizes states values targets.now costs.now masks.now limits.now drawn.now most work.old × (start.0 < states) × (length arcs.now ≡ table_size → Serves (turned targets.now costs.now) states values arcs.now) }
-    ensures { Fewest (frame (turned targets.now costs.now) states values accepting) drawn.now masks.now limits.now start.0 spent most work.old work.new result }
+    ensures { Finds (frame (turned targets.now costs.now) states values accepting) drawn.now masks.now limits.now start.0 spent most work.old work.new result }
 {
-    let mut j: usize = 0;
-    while j <= most {
+    for j in 0..most + 1 {
         fill_level(
             states, values, targets, costs, arcs, accepting, masks, limits, drawn, j, work,
         );
-        let at = j * bounds::MOST_STATES + (start.0 as usize);
-        if spent < rows::less(TOP + 1, work[at]) {
-            return j;
+        let at = j * bounds::MOST_STATES + usize::from(start);
+        if spent < (TOP + 1).saturating_sub(work[at]) {
+            return Some(j);
         }
-        j += 1;
     }
-    j
+    None
 }
 
 // Whether all that the planner's table is made of has its size.
@@ -198,13 +183,7 @@ pub(crate) fn fits(
 ) -> bool
     ensures { (result ≡ true → PlanSizes states values targets.now costs.now masks.now limits.now drawn.now most work.now) × (result ≡ false → PlanSizes states values targets.now costs.now masks.now limits.now drawn.now most work.now → ⊥) }
 {
-    if bounds::MOST_PLACES < masks.len() {
-        return false;
-    }
-    if drawn.len() != masks.len() {
-        return false;
-    }
-    if ROWS <= most {
+    if bounds::MOST_PLACES < masks.len() || drawn.len() != masks.len() || ROWS <= most {
         return false;
     }
     let plain = (masks.len() + 1) * bounds::MOST_STATES;
@@ -223,7 +202,7 @@ pub(crate) fn fits(
 }
 
 // The whole backward pass by changes: the needs of all layers for each number of changes up to the first that the start has room with,
-// or the most. Gives that number; more than the most, where there is none. Where something lent has not its size, all stays.
+// or the most. Gives that number, where there is one. Where something lent has not its size, all stays.
 pub fn fewest(
     states: usize,
     values: usize,
@@ -237,16 +216,14 @@ pub fn fewest(
     drawn: &[u8],
     most: usize,
     work: &mut [u32],
-) -> usize
+) -> Option<usize>
     ensures { NearRuns states values targets.now costs.now accepting start.0 spent masks.now limits.now drawn.now most work.old work.new result }
 {
     if !fits(
         states, values, targets, costs, masks, limits, drawn, most, work,
-    ) {
-        return usize::MAX;
-    }
-    if states <= (start.0 as usize) {
-        return usize::MAX;
+    ) || states <= usize::from(start)
+    {
+        return None;
     }
     let mut to = [0u8; bounds::TABLE_SIZE];
     let mut fee = [0u16; bounds::TABLE_SIZE];

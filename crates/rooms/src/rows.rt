@@ -5,20 +5,12 @@ ghost use Rattle.rules.specs.Answers.{zeros};
 ghost use Rattle.rooms.specs.Tables.{blanked, copied, Filled, Low, Matches};
 
 use rules::bounds::TOP;
-use rules::numbers::lesser;
-
-// The greater of two numbers.
-pub(crate) fn greater(a: u32, b: u32) -> u32
-    ensures { result ≡ max a b }
-{
-    if a < b { b } else { a }
-}
 
 // What is left of a number; 0, where less is there than is taken.
 pub fn less(a: u32, b: u32) -> u32
     ensures { result ≡ a - b }
 {
-    if a < b { 0 } else { a - b }
+    a.saturating_sub(b)
 }
 
 // One number in the first places of a row; a row that has fewer stays.
@@ -28,28 +20,17 @@ pub fn blank(count: usize, number: u32, row: &mut [u32])
     if row.len() < count {
         return;
     }
-    let mut k: usize = 0;
-    while k < count {
-        row[k] = number;
-        k += 1;
-    }
+    row[..count].fill(number);
 }
 
 // The first places of a row, as another has them; where one of the two has fewer, the row stays.
 pub fn copy(count: usize, from: &[u32], row: &mut [u32])
     ensures { row.new ≡ copied count from.now row.old }
 {
-    if from.len() < count {
+    if from.len() < count || row.len() < count {
         return;
     }
-    if row.len() < count {
-        return;
-    }
-    let mut i: usize = 0;
-    while i < count {
-        row[i] = from[i];
-        i += 1;
-    }
+    row[..count].copy_from_slice(&from[..count]);
 }
 
 // Whether a row of needs is another one with a rise, one more than the top at most.
@@ -57,12 +38,10 @@ pub(crate) fn risen(count: usize, rise: u32, from: &[u32], row: &[u32]) -> bool
     requires { (count ≤ length from.now) × (count ≤ length row.now) × (rise ≤ suc top) × Low count from.now }
     ensures { Matches (λ k. min (suc top) (get_or from.now k 0 + rise)) count row.now result }
 {
-    let mut j: usize = 0;
-    while j < count {
-        if row[j] != lesser(TOP + 1, from[j] + rise) {
+    for j in 0..count {
+        if row[j] != (TOP + 1).min(from[j] + rise) {
             return false;
         }
-        j += 1;
     }
     true
 }
@@ -72,26 +51,22 @@ pub(crate) fn settle(count: usize, least: u32, row: &mut [u32], needs: &mut [u32
     requires { (count ≤ length row.old) × (count ≤ length needs.old) }
     ensures { Filled (λ k. max (get_or row.old k 0) least) count row.old row.new × Filled (λ k. max (get_or row.old k 0) least) count needs.old needs.new }
 {
-    let mut n: usize = 0;
-    while n < count {
-        let need = greater(row[n], least);
+    for n in 0..count {
+        let need = row[n].max(least);
         row[n] = need;
         needs[n] = need;
-        n += 1;
     }
 }
 
-// Every number of a table becomes 0, in both halves at once: as one run it is made a call that takes a turn for each byte.
+// Every number of a table becomes 0, in both halves at once: as one run, by `fill` too, it is made a call that takes a turn for each byte.
 pub fn wipe(table: &mut [u32])
     ensures { table.new ≡ zeros table.old }
 {
     let back = table.len() / 2;
     let count = table.len() - back;
-    let mut at: usize = 0;
-    while at < count {
+    for at in 0..count {
         let other = back + at;
         table[at] = 0;
         table[other] = 0;
-        at += 1;
     }
 }

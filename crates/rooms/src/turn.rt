@@ -12,7 +12,7 @@ use rules::bounds;
 pub fn turned_at(q: State, v: Value) -> usize
     ensures { result ≡ v.0 * most_states + q.0 }
 {
-    (v.0 as usize) * bounds::MOST_STATES + (q.0 as usize)
+    usize::from(v) * bounds::MOST_STATES + usize::from(q)
 }
 
 // The arcs on one value.
@@ -28,12 +28,10 @@ pub(crate) fn turn_value(
     requires { (states ≤ most_states) × (values ≤ most_values) × (length targets.now ≡ table_size) × (length costs.now ≡ table_size) × (v.0 < values) × (states ≤ length to.old) × (states ≤ length fee.old) }
     ensures { Filled (λ q. target (arcs_of states values targets.now costs.now) q v.0) states to.old to.new × Filled (λ q. cost (arcs_of states values targets.now costs.now) q v.0) states fee.old fee.new }
 {
-    let mut q = State(0);
-    while (q.0 as usize) < states {
-        let at = arc_at(State(q.0), Value(v.0), values as u8);
-        to[q.0 as usize] = targets[at];
-        fee[q.0 as usize] = costs[at];
-        q = State(q.0 + 1);
+    for q in 0..states {
+        let at = arc_at(State(q as u8), v, values as u8);
+        to[q] = targets[at];
+        fee[q] = costs[at];
     }
 }
 
@@ -49,19 +47,17 @@ pub(crate) fn turn(
     requires { (states ≤ most_states) × (values ≤ most_values) × (length targets.now ≡ table_size) × (length costs.now ≡ table_size) × (length to.old ≡ table_size) × (length fee.old ≡ table_size) }
     ensures { Same (arcs_of states values targets.now costs.now) values (turned to.new fee.new) × Outside states values to.old to.new × Outside states values fee.old fee.new }
 {
-    let mut v = Value(0);
-    while (v.0 as usize) < values {
-        let at = turned_at(State(0), Value(v.0));
+    for v in 0..values {
+        let at = v * bounds::MOST_STATES;
         let end = at + bounds::MOST_STATES;
         turn_value(
             states,
             values,
             targets,
             costs,
-            Value(v.0),
+            Value(v as u8),
             &mut to[at..end],
             &mut fee[at..end],
         );
-        v = Value(v.0 + 1);
     }
 }

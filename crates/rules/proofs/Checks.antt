@@ -1,6 +1,6 @@
 -- What the tests of the checks say, and how `decided` goes by them. Assumes nothing.
 use mathlib.Core.Path.{◌≡◌, refl, sym, ap, ◌∙◌}
-use mathlib.Core.Bool.{Bool, true, false, not, ◌&&◌, ◌||◌, and-eq-true_iff, or-false, false≢true}
+use mathlib.Core.Bool.{Bool, true, false, not, ◌&&◌, ◌||◌, and-eq-true_iff, false≢true}
 use mathlib.Core.List.{List, [], ◌∷◌}
 use Prim.Native.Nat.{ℕ, ◌+◌, ◌-◌, ◌*◌, ◌^◌, ◌≤◌, ◌<◌}
 use native.Mathlib.Nat.{mul-le-mul}
@@ -10,9 +10,9 @@ use lib.Dec.{leb, ltb, eqb}
 use lib.Arith.{digits_lt}
 use lib.ListN.{length, get_or, drop, drop_of_length-le}
 use lib.Seq.{drop-cons}
-use borrow.Author.Tests.{leb-true, ltb-true, eqb-true, le-leb, lt-ltb, le-ltb, eq-eqb, ne_eqb}
+use borrow.Author.Tests.{leb-true, ltb-true, eqb-true, le-leb, eq-eqb}
 use Rattle.meaning.specs.Lists.{all}
-use Rattle.meaning.specs.Bounds.{most_places, most_states, most_values, most_cost, no_target, table_size}
+use Rattle.meaning.specs.Bounds.{most_places, most_states, most_values, table_size}
 use Rattle.rules.specs.Checks.{size_right, sizes_right, tables_long, arc_right, tables_from, tables_right, rules_right}
 use Rattle.rules.specs.Answers.{Check, check, decided}
 
@@ -127,9 +127,6 @@ size_of_lem q v s h =
       start_state = ltb-true _ _ d.1;
     }
 
-pub size_no : (q v s : ℕ) → (Size q v s → ⊥) → size_right q v s ≡ false
-size_no q v s h = not_so (size_right q v s) (λ e. h (size_of_lem q v s e))
-
 pub record Sizes (n q v s : ℕ) : Type 0 where
   pub some_places : 1 ≤ n
   pub few_places : n ≤ most_places
@@ -146,9 +143,6 @@ sizes_of n q v s h =
     let b = both (leb n most_places) _ a.1 in
     record { some_places = leb-true _ _ a.0; few_places = leb-true _ _ b.0; size = b.1 }
 
-pub sizes_no : (n q v s : ℕ) → (Sizes n q v s → ⊥) → sizes_right n q v s ≡ false
-sizes_no n q v s h = not_so (sizes_right n q v s) (λ e. h (sizes_of n q v s e))
-
 -- answer 2
 pub long_tables : (t c : List ℕ) → tables_long t c ≡ true → (length t ≡ table_size) × (length c ≡ table_size)
 unfolding tables_long
@@ -156,14 +150,6 @@ long_tables t c h = let p = both (eqb (length t) table_size) _ h in (eqb-true _ 
 
 -- of a rule set whose size and tables' lengths are right, the tables alone decide
 module _ (q v s : ℕ) (t c : List ℕ) (a : ℕ) where
-  pub rules_size : size_right q v s ≡ false → rules_right q v s t c a ≡ false
-  unfolding rules_right
-  rules_size h = rw h
-
-  pub rules_short : size_right q v s ≡ true → tables_long t c ≡ false → rules_right q v s t c a ≡ false
-  unfolding rules_right
-  rules_short h k = rw (h, k)
-
   pub rules_tables : size_right q v s ≡ true → tables_long t c ≡ true → rules_right q v s t c a ≡ tables_right q v t c a
   unfolding rules_right
   rules_tables h k = rw (h, k)
@@ -203,16 +189,3 @@ arcs_few h k = mul-le-mul h k
 
 pub arc_place : {q v u : ℕ} → q < most_states → v ≤ most_values → u < v → q * v + u < table_size
 arc_place {q} {v} {u} h k l = let d = digits_lt {m = most_states} h l in omega arith
-
--- an arc is right by either of two cases
-pub arc_missing : (q t c : ℕ) → t ≡ no_target → q ≤ most_states → eqb c 0 ≡ arc_right q t c
-unfolding arc_right
-arc_missing q t c h k = rw (eq-eqb t no_target h, le-ltb t q (omega arith)) (sym (or-false (eqb c 0)))
-
-pub arc_there : (q t c : ℕ) → (t ≡ no_target → ⊥) → t < q → leb c most_cost ≡ arc_right q t c
-unfolding arc_right
-arc_there q t c h k = rw (ne_eqb t no_target h, lt-ltb t q k)
-
-pub arc_nowhere : (q t c : ℕ) → (t ≡ no_target → ⊥) → q ≤ t → false ≡ arc_right q t c
-unfolding arc_right
-arc_nowhere q t c h k = rw (ne_eqb t no_target h, le-ltb t q k)

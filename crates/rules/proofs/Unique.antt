@@ -1,24 +1,25 @@
 -- Each public contract leaves one result: any two that it allows are equal. Assumes nothing.
-use mathlib.Core.Path.{◌≡◌, refl, sym, ap, ap₂, ◌∙◌}
+use mathlib.Core.Path.{◌≡◌, refl, sym, ap, ◌∙◌}
 use mathlib.Core.Bool.{Bool, true}
 use mathlib.Core.List.{List, [], ◌∷◌}
-use Prim.Native.Nat.{ℕ, ◌+◌, ◌*◌, min}
+use Prim.Native.Nat.{ℕ, ◌+◌, ◌-◌, ◌*◌, min}
+use native.Mathlib.Omega.{arith}
 use lib.ListN.{get_or}
+use Rattle.std.specs.Prelude.{Result, Ok, Err}
 use Rattle.kinds.specs.Bits.{bit}
 use Rattle.kinds.specs.declared.State.{State}
 use Rattle.kinds.specs.declared.Value.{Value}
 use Rattle.rules.specs.Report.{Outcome, outcome, values_right, report_checks, report_of}
-use Rattle.rules.specs.Checks.{Handed, size_right, sizes_right, tables_long, rules_right, masks_right}
-use Rattle.rules.specs.Answers.{number_of, zeros, order, in_order}
+use Rattle.rules.specs.Checks.{Handed, size_right, sizes_right, tables_long, rules_right, masks_right, rule_checks}
+use Rattle.rules.specs.Answers.{number_of, answer_of, carried, zeros, order, in_order, decided}
 use Rattle.rules.specs.declared.Answer.{Answer}
 use Rattle.rules.specs.declared.Answer.TheVariants as the
-use Rattle.rules.specs.declared.Reported.{Reported}
+use Rattle.rules.proofs.Refusals.{number_some}
 
 -- an answer is told by its number
 abbrev answers : List Answer
 answers =
-    the.Done
-    ∷ the.WrongSize
+    the.WrongSize
     ∷ the.WrongLength
     ∷ the.WrongTables
     ∷ the.WrongMask
@@ -35,26 +36,11 @@ answers =
     ∷ the.WrongPattern
     ∷ []
 
-at_number : (a : Answer) → get_or answers (number_of a) the.Done ≡ a
-at_number the.Done = refl
-at_number the.WrongSize = refl
-at_number the.WrongLength = refl
-at_number the.WrongTables = refl
-at_number the.WrongMask = refl
-at_number the.WrongSheet = refl
-at_number the.ShortBuffer = refl
-at_number the.OutOfRange = refl
-at_number the.DecisionsFull = refl
-at_number the.MarksFull = refl
-at_number the.NoMark = refl
-at_number the.NoRoster = refl
-at_number the.WrongMemory = refl
-at_number the.NumberOutside = refl
-at_number the.ManyStates = refl
-at_number the.WrongPattern = refl
+at_number : (a : Answer) → get_or answers (number_of a - 1) the.WrongSize ≡ a
+at_number a = grind arith
 
 pub answer_one : (a b : Answer) → number_of a ≡ number_of b → a ≡ b
-answer_one a b e = sym (at_number a) ∙ (ap (λ (n : ℕ). get_or answers n the.Done) e ∙ at_number b)
+answer_one a b e = sym (at_number a) ∙ (ap (λ (n : ℕ). get_or answers (n - 1) the.WrongSize) e ∙ at_number b)
 
 pub number_unique : (a : Answer) (r s : ℕ) → r ≡ number_of a → s ≡ number_of a → r ≡ s
 number_unique a r s p q = p ∙ sym q
@@ -96,13 +82,27 @@ lesser_unique a b r s p q = p ∙ sym q
 pub clear_unique : (s a b : List ℕ) → a ≡ zeros s → b ≡ zeros s → a ≡ b
 clear_unique s a b p q = p ∙ sym q
 
+-- what a call gives is told by its answer number and what it carries
+pub given_one : {A : Type 0} (r s : Result A Answer) → answer_of r ≡ answer_of s → ((x y : A) → r ≡ Ok x → s ≡ Ok y → x ≡ y) → r ≡ s
+given_one (Ok x) (Ok y) e f = ap Ok (f x y refl refl)
+given_one (Ok x) (Err b) e f = absurd (number_some b (sym e))
+given_one (Err a) (Ok y) e f = absurd (number_some a e)
+given_one (Err a) (Err b) e f = ap Err (answer_one a b e)
+
+pub number_of_unique : {A : Type 0} (given : Result A Answer) (r s : ℕ) → r ≡ answer_of given → s ≡ answer_of given → r ≡ s
+number_of_unique given r s p q = p ∙ sym q
+
+-- the checks that every call makes first
+pub checked_unique : (h : Handed) (long : Bool) (r s : Result Unit Answer)
+    → answer_of r ≡ decided (rule_checks h long []) (λ n. n) 0 → answer_of s ≡ decided (rule_checks h long []) (λ n. n) 0 → r ≡ s
+checked_unique h long r s p q = given_one r s (p ∙ sym q) (λ x y i j. refl)
+
 -- the prefix report
-pub prefix_report_unique : (h : Handed) (w : List ℕ) (r s : Reported)
-    → outcome (number_of r.answer) r.report ≡ report_of h w → outcome (number_of s.answer) s.report ≡ report_of h w → r ≡ s
+pub prefix_report_unique : (h : Handed) (w : List ℕ) (r s : Result ℕ Answer)
+    → outcome (answer_of r) (carried r) ≡ report_of h w → outcome (answer_of s) (carried s) ≡ report_of h w → r ≡ s
 prefix_report_unique h w r s p q =
-    let e : outcome (number_of r.answer) r.report ≡ outcome (number_of s.answer) s.report = p ∙ sym q in
-    ap₂ (λ (a : Answer) (n : ℕ). record { answer = a; report = n })
-    (answer_one r.answer s.answer (ap (λ (o : Outcome). o.answer) e)) (ap (λ (o : Outcome). o.report) e)
+    let e : outcome (answer_of r) (carried r) ≡ outcome (answer_of s) (carried s) = p ∙ sym q in
+    given_one r s (ap (λ (o : Outcome). o.answer) e) (λ x y i j. sym (ap carried i) ∙ (ap (λ (o : Outcome). o.report) e ∙ ap carried j))
 
 -- its checks run in the paper's order
 pub prefix_report_order : (h : Handed) (w : List ℕ) → in_order order (report_checks h w) ≡ true

@@ -1,11 +1,10 @@
 -- The answer numbers, and how the checks of a call, in the paper's order, decide what comes of it.
-use Rattle.std.specs.Prelude.{Bool, true, false, cond, List, [], ◌∷◌, ℕ, eqb, leb, length, replicate}
+use Rattle.std.specs.Prelude.{Bool, true, false, cond, List, [], ◌∷◌, ℕ, eqb, leb, length, replicate, Result, Ok, Err}
 use Rattle.rules.specs.declared.Answer.{Answer}
 use Rattle.rules.specs.declared.Answer.TheVariants as the
 
--- the paper's number of each answer
+-- the paper's number of each answer but 0, which is no refusal
 abbrev pub number_of : Answer → ℕ
-number_of the.Done = 0
 number_of the.WrongSize = 1
 number_of the.WrongLength = 2
 number_of the.WrongTables = 3
@@ -21,6 +20,16 @@ number_of the.WrongMemory = 12
 number_of the.NumberOutside = 13
 number_of the.ManyStates = 14
 number_of the.WrongPattern = 15
+
+-- the answer number of what a call gives: 0 where it is done
+abbrev pub answer_of : {A : Type 0} → Result A Answer → ℕ
+answer_of (Ok x) = 0
+answer_of (Err a) = number_of a
+
+-- the number that it carries: 0 where there is none
+abbrev pub carried : Result ℕ Answer → ℕ
+carried (Ok n) = n
+carried (Err a) = 0
 
 -- the order in which checks run
 unfoldable pub order : List ℕ

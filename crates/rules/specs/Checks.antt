@@ -4,6 +4,7 @@ use Rattle.meaning.specs.Meaning.{Rules, rules_of}
 use Rattle.meaning.specs.Lists.{from, all}
 use Rattle.meaning.specs.Bounds.{most_places, most_states, most_values, most_cost, no_target, table_size}
 use Rattle.rules.specs.Answers.{Check, check}
+use Rattle.rules.specs.declared.RuleSet.{RuleSet}
 
 -- what a call on a rule set is handed: n, Q, V, start, the rule tables and the accepting mask
 pub record Handed : Type 0 where
@@ -13,6 +14,14 @@ pub record Handed : Type 0 where
 
 abbrev pub handed : ℕ → ℕ → ℕ → ℕ → List ℕ → List ℕ → ℕ → Handed
 handed n q v s t c a = record { places = n; start = s; rules = rules_of q v t c a }
+
+-- the same of a rule set as the code is lent it
+abbrev pub handed_in : ℕ → RuleSet → Handed
+handed_in n r = handed n r.size.states r.size.values r.size.start.0 r.targets.now r.costs.now r.accepting
+
+-- and the rule set that it stands for
+abbrev pub rules_in : RuleSet → Rules
+rules_in r = rules_of r.size.states r.size.values r.targets.now r.costs.now r.accepting
 
 -- tables alike in their first n places
 abbrev pub Alike : ℕ → List ℕ → List ℕ → Type 0

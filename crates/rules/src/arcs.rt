@@ -3,25 +3,38 @@ ghost use Rattle.std.specs.Prelude.{◌≡◌, ◌+◌, ◌*◌, ◌^◌, ◌≤
 ghost use Rattle.meaning.specs.Bounds.{most_states, most_values, table_size};
 ghost use Rattle.rules.specs.Checks.{arc_right, tables_right};
 
-use crate::bounds;
+use crate::{RuleSet, bounds};
 use kinds::{State, Value};
 
 // Where the arc of a state on a value stands in a rule table of `values` values: a row for each state.
 pub fn arc_at(q: State, v: Value, values: u8) -> usize
     ensures { result ≡ q.0 * values + v.0 }
 {
-    (q.0 as usize) * (values as usize) + (v.0 as usize)
+    usize::from(q) * usize::from(values) + usize::from(v)
 }
 
-// Where the arc of a state on a value leads.
-pub(crate) fn target_of(values: usize, targets: &[u8], q: State, v: Value) -> u8
-    requires { (values ≤ most_values) × (length targets.now ≡ table_size) × (q.0 < most_states) × (v.0 < values) }
-    ensures { result ≡ get_or targets.now (q.0 * values + v.0) 0 }
-{
-    targets[arc_at(q, v, values as u8)]
+// The arcs of a rule set whose size and tables' length are right.
+#[derive(Clone, Copy)]
+pub(crate) struct Arcs<'a> {
+    pub(crate) states: usize,
+    pub(crate) values: usize,
+    pub(crate) targets: &'a [u8],
+    ghost in_range: { (states ≤ most_states) × (values ≤ most_values) × (length targets.now ≡ table_size) },
+}
+
+impl Arcs<'_> {
+    // Where the arc of a state on a value leads.
+    #[tactic(auto, using(crate::proofs::Checks::arc_place))]
+    pub(crate) fn target_of(&self, q: State, v: Value) -> u8
+        requires { (q.0 < most_states) × (v.0 < self.now.values) }
+        ensures { result ≡ get_or self.now.targets.now (q.0 * self.now.values + v.0) 0 }
+    {
+        self.targets[arc_at(q, v, self.values as u8)]
+    }
 }
 
 // Whether one arc is lawful: missing at no cost, or to a state at a cost in range.
+#[tactic(auto, unfolding(crate::specs::Checks::arc_right))]
 pub(crate) fn arc_right(states: usize, target: u8, cost: u16) -> bool
     requires { states ≤ most_states }
     ensures { result ≡ arc_right states target cost }
@@ -29,13 +42,11 @@ pub(crate) fn arc_right(states: usize, target: u8, cost: u16) -> bool
     if target == bounds::NO_TARGET {
         return cost == 0;
     }
-    if (target as usize) < states {
-        return cost <= bounds::MOST_COST;
-    }
-    false
+    usize::from(target) < states && cost <= bounds::MOST_COST
 }
 
 // Whether no accepting bit stands at or above the number of states.
+#[tactic(auto, using(kinds::proofs::Bits::none_above, kinds::proofs::Bits::below_width))]
 pub(crate) fn accepting_right(states: usize, accepting: u64) -> bool
     requires { states ≤ most_states }
     ensures { result ≡ ltb accepting (2 ^ states) }
@@ -47,23 +58,16 @@ pub(crate) fn accepting_right(states: usize, accepting: u64) -> bool
 }
 
 // Whether the first Q × V places of the tables and the accepting mask are lawful.
-pub(crate) fn tables_right(
-    states: usize,
-    values: usize,
-    targets: &[u8],
-    costs: &[u16],
-    accepting: u64,
-) -> bool
-    requires { (states ≤ most_states) × (values ≤ most_values) × (length targets.now ≡ table_size) × (length costs.now ≡ table_size) }
-    ensures { result ≡ tables_right states values targets.now costs.now accepting }
+pub(crate) fn tables_right(rules: &RuleSet<'_>) -> bool
+    requires { (rules.now.size.states ≤ most_states) × (rules.now.size.values ≤ most_values) × (length rules.now.targets.now ≡ table_size) × (length rules.now.costs.now ≡ table_size) }
+    ensures { result ≡ tables_right rules.now.size.states rules.now.size.values rules.now.targets.now rules.now.costs.now rules.now.accepting }
 {
-    let count = states * values;
-    let mut k: usize = 0;
-    while k < count {
-        if !arc_right(states, targets[k], costs[k]) {
+    let states = rules.size.states;
+    // by place: of a chain over zip and take no proof was found
+    for k in 0..states * rules.size.values {
+        if !arc_right(states, rules.targets[k], rules.costs[k]) {
             return false;
         }
-        k += 1;
     }
-    accepting_right(states, accepting)
+    accepting_right(states, rules.accepting)
 }

@@ -13,9 +13,5 @@ pub fn lesser(a: u32, b: u32) -> u32
 pub fn clear(s: &mut [u32])
     ensures { s.new ≡ zeros s.old }
 {
-    let mut i: usize = 0;
-    while i < s.len() {
-        s[i] = 0;
-        i += 1;
-    }
+    s.fill(0);
 }

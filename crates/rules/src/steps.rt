@@ -1,47 +1,33 @@
 // The values and the steps of a drawn roster.
 ghost use Rattle.std.specs.Prelude.{◌≡◌, true, ◌≤◌, ◌<◌, length};
-ghost use Rattle.meaning.specs.Bounds.{most_states, most_values, table_size};
+ghost use Rattle.meaning.specs.Bounds.{most_states};
 ghost use Rattle.rules.specs.Report.{values_right};
 ghost use Rattle.rules.specs.Inner.{steps};
 
-use crate::arcs::target_of;
+use crate::arcs::Arcs;
 use crate::finish::holds;
 use kinds::{State, Value};
 
 // Whether every value of the roster is below V: else answer 7.
+#[tactic(auto, unfolding(crate::specs::Report::values_right))]
 pub fn values_right(values: usize, roster: &[u8]) -> bool
     ensures { result ≡ values_right values roster.now }
 {
-    let mut i: usize = 0;
-    while i < roster.len() {
-        if values <= (roster[i] as usize) {
-            return false;
-        }
-        i += 1;
-    }
-    true
+    roster.iter().all(|v| usize::from(*v) < values)
 }
 
 // The steps that the roster makes, each to a state from which it can still finish with the values left.
-pub(crate) fn steps_made(
-    values: usize,
-    targets: &[u8],
-    layers: &[u64],
-    start: State,
-    roster: &[u8],
-) -> usize
-    requires { (values ≤ most_values) × (length targets.now ≡ table_size) × (start.0 < most_states) × (length roster.now ≤ length layers.now) × (values_right values roster.now ≡ true) }
-    ensures { result ≡ steps values targets.now layers.now start.0 roster.now }
+pub(crate) fn steps_made(arcs: &Arcs<'_>, layers: &[u64], start: State, roster: &[u8]) -> usize
+    requires { (start.0 < most_states) × (length roster.now ≤ length layers.now) × (values_right arcs.now.values roster.now ≡ true) }
+    ensures { result ≡ steps arcs.now.values arcs.now.targets.now layers.now start.0 roster.now }
 {
     let mut q = start;
-    let mut i: usize = 0;
-    while i < roster.len() {
-        let next = target_of(values, targets, q, Value(roster[i]));
-        i += 1;
-        if !holds(layers[roster.len() - i], State(next)) {
-            return i - 1;
+    for i in 0..roster.len() {
+        let next = State(arcs.target_of(q, Value(roster[i])));
+        if !holds(layers[roster.len() - (i + 1)], next) {
+            return i;
         }
-        q = State(next);
+        q = next;
     }
-    i
+    roster.len()
 }

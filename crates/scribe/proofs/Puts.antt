@@ -22,9 +22,9 @@ use Rattle.meaning.proofs.Lists.{each_append, each_each, each_same, each_more}
 pub wrote_then : {b c d xs ys : List ℕ} {at p r : ℕ} → length b ≤ most_place → Wrote b at xs c p → (length c ≤ most_place → Wrote c p ys d r) → Wrote b at (xs ++ ys) d r
 wrote_then {b} {c} {d} {xs} {ys} {at} {p} {r} fits u w = wrote_append b fits at xs ys c d p r u (w (omega (arith, wrote_length b at xs c p u)))
 
--- a field with what follows it
-pub wrote_field : {b c d ys : List ℕ} {at p r : ℕ} (n s : ℕ) → length b ≤ most_place → Wrote b at (decimal n ++ s ∷ []) c p → (length c ≤ most_place → Wrote c p ys d r) → Wrote b at (decimal n ++ s ∷ ys) d r
-wrote_field {ys = ys} n s fits u w = rw (append_snoc (decimal n) s ys) at (wrote_then fits u w)
+-- a field of the number n with what follows it
+pub wrote_field : {b c d ys : List ℕ} {at p r : ℕ} (n m s : ℕ) → m ≡ n → length b ≤ most_place → Wrote b at (decimal m ++ s ∷ []) c p → (length c ≤ most_place → Wrote c p ys d r) → Wrote b at (decimal n ++ s ∷ ys) d r
+wrote_field {ys = ys} n m s e fits u w = rw (append_snoc (decimal n) s ys) at (wrote_then fits (rw e at u) w)
 
 -- texts listed one after the other
 module _ (f : ℕ → List ℕ) (b : List ℕ) (at : ℕ) where

@@ -5,6 +5,7 @@ use mathlib.Core.List.{List, ◌∷◌, ◌++◌, append_assoc}
 use mathlib.Core.Logic.{⊎_elim}
 use Prim.Native.Nat.{ℕ, zero, suc, ◌+◌, ◌-◌, ◌*◌, ◌≤◌, ◌<◌}
 use native.Mathlib.Omega.{arith}
+use Rattle.std.specs.Prelude.{Option, None, Some}
 use native.Mathlib.Nat.{eq-or-lt_of_le}
 use lib.Dec.{eqb}
 use lib.ListN.{length, get_or, drop, take, set, replicate, replicate-append-replicate}
@@ -21,61 +22,63 @@ use Rattle.ledger.proofs.Entries.{row_at, rows_at}
 use Rattle.session.specs.Inner.{Counted, mark_at, undone_at}
 use Rattle.session.proofs.Pushes.{held_counts}
 
--- the loop that looks for the newest mark
-module _ (k i : ℕ) (s : List ℕ) (inv : mark_at k s ≡ mark_at i s) (h : 0 < i) where
-  step_down : i ≡ suc (i - 1)
-  step_down = omega arith
-
-  open_up : mark_at i s ≡ cond (eqb (is_mark (entry_at s (i - 1))) 1) (suc (i - 1)) (mark_at (i - 1) s)
+-- the loop that looks for the newest mark: i entries are left to look at, and entry j is next
+module _ (k i j : ℕ) (s : List ℕ) (z : i ≡ suc j) (inv : mark_at k s ≡ mark_at i s) where
+  open_up : mark_at k s ≡ cond (eqb (is_mark (entry_at s j)) 1) (Some j) (mark_at j s)
   unfolding mark_at
-  open_up = ap (λ (j : ℕ). mark_at j s) step_down
+  open_up = inv ∙ ap (λ (n : ℕ). mark_at n s) z
 
-  module _ (w : ℕ) (f : (p x : ℕ) → w ≡ is_mark (entry_of (get_or s ((i - 1) * row_size) 0) p x)) where
-    is_mark_lem : w ≡ is_mark (entry_at s (i - 1))
+  module _ (w : Bool) (f : (p x : ℕ) → cond w 1 0 ≡ is_mark (entry_of (get_or s (j * row_size) 0) p x)) where
+    is_mark_lem : cond w 1 0 ≡ is_mark (entry_at s j)
     unfolding entry_at
     is_mark_lem = f _ _
 
-    pub mark_here : w ≡ 1 → i ≡ mark_at k s
+    pub mark_here : w ≡ true → Some j ≡ mark_at k s
     mark_here e =
-        step_down ∙ sym (inv ∙ open_up ∙ ap (λ (b : Bool). cond b (suc (i - 1)) (mark_at (i - 1) s)) (eq-eqb (is_mark (entry_at s (i - 1))) 1 (sym is_mark_lem ∙ e)))
+        let n : is_mark (entry_at s j) ≡ 1 = sym is_mark_lem ∙ ap (λ (b : Bool). cond b 1 0) e in
+        sym (open_up ∙ ap (λ (b : Bool). cond b (Some j) (mark_at j s)) (eq-eqb (is_mark (entry_at s j)) 1 n))
 
-    pub mark_past : (w ≡ 1 → ⊥) → mark_at k s ≡ mark_at (i - 1) s
+    pub mark_past : w ≡ false → mark_at k s ≡ mark_at j s
     mark_past e =
-        inv ∙ open_up ∙ ap (λ (b : Bool). cond b (suc (i - 1)) (mark_at (i - 1) s)) (ne_eqb (is_mark (entry_at s (i - 1))) 1 (λ g. e (is_mark_lem ∙ g)))
+        let n : is_mark (entry_at s j) ≡ 0 = sym is_mark_lem ∙ ap (λ (b : Bool). cond b 1 0) e in
+        open_up ∙ ap (λ (b : Bool). cond b (Some j) (mark_at j s)) (ne_eqb (is_mark (entry_at s j)) 1 (λ g. omega (arith, n)))
 
-pub mark_none : (k i : ℕ) (s : List ℕ) → mark_at k s ≡ mark_at i s → i ≤ 0 → 0 ≡ mark_at k s
+-- where there is no mark
+pub none_of : (j : Option ℕ) → ((i : ℕ) → j ≡ Some i → ⊥) → j ≡ None
+none_of None f = refl
+none_of (Some i) f = absurd (f i refl)
+
+pub mark_none : (k i : ℕ) (s : List ℕ) → mark_at k s ≡ mark_at i s → i ≤ 0 → None ≡ mark_at k s
 unfolding mark_at
-mark_none k i s e h = let z : i ≡ 0 = omega arith in sym (e ∙ ap (λ (j : ℕ). mark_at j s) z)
+mark_none k i s e h = let z : i ≡ 0 = omega arith in sym (e ∙ ap (λ (n : ℕ). mark_at n s) z)
 
 -- what the newest mark says of the entries
-pub record Found (s : List ℕ) (es : List Entry) (j : ℕ) : Type 0 where
-  pub none : j ≡ 0 → marks es ≡ 0
-  pub back : (j ≡ 0 → ⊥) → back_to es ≡ entries_at (j - 1) s
-  pub one_less : (j ≡ 0 → ⊥) → marks es ≡ suc (marks (entries_at (j - 1) s))
+pub record Found (s : List ℕ) (es : List Entry) (j : Option ℕ) : Type 0 where
+  pub none : j ≡ None → marks es ≡ 0
+  pub back : (i : ℕ) → j ≡ Some i → back_to es ≡ entries_at i s
+  pub one_less : (i : ℕ) → j ≡ Some i → marks es ≡ suc (marks (entries_at i s))
 
 pub found : (s : List ℕ) (k : ℕ) → Found s (entries_at k s) (mark_at k s)
 unfolding mark_at entries_at marks is_mark back_to
-found s zero = record { none = λ z. refl; back = λ h. absurd (h refl); one_less = λ h. absurd (h refl) }
+found s zero = record { none = λ z. refl; back = λ i h. cc; one_less = λ i h. cc }
 found s (suc k) = go (entry_at s k) (entries_at k s) (mark_at k s) refl (found s k)
   where
-    go : (e : Entry) (es : List Entry) (j : ℕ) → es ≡ entries_at k s → Found s es j → Found s (e ∷ es) (cond (eqb (is_mark e) 1) (suc k) j)
-    go (decision d) es j q f = record { none = λ h. omega (arith, f.none h); back = f.back; one_less = λ h. omega (arith, f.one_less h) }
-    go mark es j q f =
-        let z : suc k - 1 ≡ k = omega arith in
-        record {
-          none = λ h. absurd (omega arith);
-          back = λ h. q ∙ ap (λ (i : ℕ). entries_at i s) (sym z);
-          one_less = λ h. omega (arith, ap marks (q ∙ ap (λ (i : ℕ). entries_at i s) (sym z)));
-        }
+    go : (e : Entry) (es : List Entry) (j : Option ℕ) → es ≡ entries_at k s → Found s es j → Found s (e ∷ es) (cond (eqb (is_mark e) 1) (Some k) j)
+    go (decision d) es j q f = record { none = λ h. omega (arith, f.none h); back = f.back; one_less = λ i h. omega (arith, f.one_less i h) }
+    go mark es j q f = record {
+      none = λ h. cc;
+      back = λ i h. let z : k ≡ i = cc in q ∙ ap (λ (i : ℕ). entries_at i s) z;
+      one_less = λ i h. let z : k ≡ i = cc in omega (arith, ap marks (q ∙ ap (λ (i : ℕ). entries_at i s) z));
+    }
 
-pub mark_le : (s : List ℕ) (k : ℕ) → mark_at k s ≤ k
+pub mark_below : (s : List ℕ) (k i : ℕ) → mark_at k s ≡ Some i → i < k
 unfolding mark_at
-mark_le s zero = omega arith
-mark_le s (suc k) = go (eqb (is_mark (entry_at s k)) 1) (mark_at k s) (mark_le s k)
+mark_below s zero i h = cc
+mark_below s (suc k) i h = go (eqb (is_mark (entry_at s k)) 1) (mark_at k s) (mark_below s k) h
   where
-    go : (b : Bool) (j : ℕ) → j ≤ k → cond b (suc k) j ≤ suc k
-    go true j h = omega arith
-    go false j h = omega arith
+    go : (b : Bool) (j : Option ℕ) → ((i : ℕ) → j ≡ Some i → i < k) → cond b (Some k) j ≡ Some i → i < suc k
+    go true j f h = let z : k ≡ i = cc in omega arith
+    go false j f h = omega (arith, f i h)
 
 -- fewer entries
 rows_prefix : (n v : ℕ) (s : List ℕ) (k : ℕ) → rows_right n v k s ≡ true → (i : ℕ) → i ≤ k → rows_right n v i s ≡ true
@@ -175,44 +178,40 @@ module _ (n q v start : ℕ) (l : List ℕ) (h : Held n q v start l) where
         ∙ ap₂ (λ (d : ℕ) (t : List ℕ). n ∷ q ∷ v ∷ start ∷ d ∷ marks ds ∷ (replicate spare_size 0 ++ t)) u (ap (λ (t : List ℕ). rows ds ++ t) (zeros_join m))
 
   -- the newest mark of what is held
-  module _ (j : ℕ) (is : j ≡ mark_at (count_of l) (rows_of l)) where
+  module _ (j : Option ℕ) (is : j ≡ mark_at (count_of l) (rows_of l)) where
     found_now : Found s es j
     unfolding entries_of
     found_now = rw is (found s (count_of l))
 
-    pub no_mark : j ≡ 0 → marks es ≡ 0
+    pub no_mark : j ≡ None → marks es ≡ 0
     no_mark z = found_now.none z
 
-    module _ (z : j ≡ 0 → ⊥) where
-      pub undo_there : (1 ≤ j) × (j ≤ get_or l 4 0 + get_or l 5 0) × (1 ≤ get_or l 5 0) × (get_or l 5 0 ≤ j)
+    module _ (i : ℕ) (z : j ≡ Some i) where
+      low_now : i < count_of l
+      low_now = mark_below (rows_of l) (count_of l) i (sym is ∙ z)
+
+      pub undo_there : (i < get_or l 4 0 + get_or l 5 0) × (1 ≤ get_or l 5 0) × (get_or l 5 0 ≤ i + 1)
       unfolding count_of
       undo_there =
           let c = held_counts n q v start l h in
-          let m = found_now.one_less z in
-          let w = mark_le (rows_of l) (count_of l) in
-          let k = count_all (entries_at (j - 1) s) in
-          let b = entries_length (j - 1) s in
-          let p : 1 ≤ j = positive j z in
-          (p, omega arith, omega arith, omega arith)
-        where
-          positive : (j : ℕ) → (j ≡ 0 → ⊥) → 1 ≤ j
-          positive zero z = absurd (z refl)
-          positive (suc j) z = omega arith
-
-      low_now : j - 1 ≤ count_of l
-      low_now = let w = mark_le (rows_of l) (count_of l) in omega arith
+          let m = found_now.one_less i z in
+          let w = low_now in
+          let k = count_all (entries_at i s) in
+          let b = entries_length i s in
+          (omega arith, omega arith, omega arith)
 
       pub back_within : WithinBounds n v (opening_of n l) (back_to es)
-      back_within = rw (found_now.back z) (undo_fits (j - 1) low_now)
+      back_within = let w = low_now in rw (found_now.back i z) (undo_fits i (omega arith))
 
       pub some_marks : 0 < marks es
-      some_marks = omega (arith, found_now.one_less z)
+      some_marks = omega (arith, found_now.one_less i z)
 
       -- what is held after the stores
-      pub back_held : undone_at (j - 1) l ≡ held_of n q v start (opening_of n l) (back_to es)
+      pub back_held : undone_at i l ≡ held_of n q v start (opening_of n l) (back_to es)
       back_held =
           let c = held_counts n q v start l h in
-          undo_held (j - 1) low_now (omega (arith, found_now.one_less z)) ∙ ap (held_of n q v start (opening_of n l)) (sym (found_now.back z))
+          let w = low_now in
+          undo_held i (omega arith) (omega (arith, found_now.one_less i z)) ∙ ap (held_of n q v start (opening_of n l)) (sym (found_now.back i z))
 
 -- the stores of `undo`
 pub undone_is : (i : ℕ) (l y : List ℕ) → i ≤ get_or l 4 0 + get_or l 5 0 → opening_place ≤ length l → get_or l 4 0 + get_or l 5 0 ≤ most_entries
@@ -230,6 +229,6 @@ undone_is i l y h g f e =
     (e ∙ ap (λ (j : ℕ). replicate j 0) u)
     (ap (λ (j : ℕ). drop j (drop (head_size + i * row_size) l)) z ∙ drop-drop ((k - i) * row_size) (head_size + i * row_size) l ∙ ap (λ (j : ℕ). drop j l) w)
 
-pub newest_is : (l : List ℕ) (j : ℕ) → j ≡ mark_at (get_or l 4 0 + get_or l 5 0) (take rows_size (drop head_size l)) → j ≡ mark_at (count_of l) (rows_of l)
+pub newest_is : (l : List ℕ) (j : Option ℕ) → j ≡ mark_at (get_or l 4 0 + get_or l 5 0) (take rows_size (drop head_size l)) → j ≡ mark_at (count_of l) (rows_of l)
 unfolding count_of rows_of
 newest_is l j e = e

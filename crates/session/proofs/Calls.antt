@@ -5,6 +5,7 @@ use mathlib.Core.Logic.{⊎_elim}
 use mathlib.Core.List.{List, ◌∷◌, ◌++◌, append-nil}
 use Prim.Native.Nat.{ℕ, ◌+◌, ◌-◌, ◌≤◌, ◌<◌}
 use native.Mathlib.Omega.{arith}
+use Rattle.std.specs.Prelude.{Option, None, Some}
 use lib.Dec.{eqb, ltb}
 use lib.ListN.{length, get_or, drop, take, replicate, length-append, length-replicate, length-drop, drop_of_length-le}
 use lib.Seq.{drop_at, length-take-le, get_or-drop}
@@ -196,29 +197,29 @@ module _ (h : Handed) (m w : List ℕ) (f : Formed h m w) where
   pub back_ready : Counted part
   back_ready = rw (tail_is (shown_size h.places) m) (counted h.places h.rules.arcs.states h.rules.arcs.values h.start l held_is)
 
-  module _ (j : ℕ) (is : j ≡ mark_at (count_of part) (rows_of part)) where
+  module _ (j : Option ℕ) (is : j ≡ mark_at (count_of part) (rows_of part)) where
     newest : j ≡ mark_at (count_of l) (rows_of l)
     newest = is ∙ ap (λ (t : List ℕ). mark_at (count_of t) (rows_of t)) (tail_is (shown_size h.places) m)
 
-    pub back_none : j ≡ 0 → marks es ≡ 0
+    pub back_none : j ≡ None → marks es ≡ 0
     back_none z = no_mark h.places h.rules.arcs.states h.rules.arcs.values h.start l held_is j newest z
 
-    module _ (z : j ≡ 0 → ⊥) where
-      pub undo_ready : Counted part × (1 ≤ j) × (j ≤ get_or part 4 0 + get_or part 5 0) × (1 ≤ get_or part 5 0) × (get_or part 5 0 ≤ j)
+    module _ (i : ℕ) (z : j ≡ Some i) where
+      pub undo_ready : Counted part × (i < get_or part 4 0 + get_or part 5 0) × (1 ≤ get_or part 5 0) × (get_or part 5 0 ≤ i + 1)
       undo_ready =
-          let u = undo_there h.places h.rules.arcs.states h.rules.arcs.values h.start l held_is j newest z in
-          (back_ready, u.0, rw (tail_is (shown_size h.places) m) u.1, rw (tail_is (shown_size h.places) m) u.2, rw (tail_is (shown_size h.places) m) u.3)
+          let u = undo_there h.places h.rules.arcs.states h.rules.arcs.values h.start l held_is j newest i z in
+          (back_ready, rw (tail_is (shown_size h.places) m) u.0, rw (tail_is (shown_size h.places) m) u.1, rw (tail_is (shown_size h.places) m) u.2)
 
       pub back_some : 0 < marks es
-      back_some = some_marks h.places h.rules.arcs.states h.rules.arcs.values h.start l held_is j newest z
+      back_some = some_marks h.places h.rules.arcs.states h.rules.arcs.values h.start l held_is j newest i z
 
-      pub back_renews : (y : List ℕ) → y ≡ undone_at (j - 1) part → (r : Left) → r ≡ renewed_of h (around h.places m y) w
+      pub back_renews : (y : List ℕ) → y ≡ undone_at i part → (r : Left) → r ≡ renewed_of h (around h.places m y) w
           → r ≡ became h (opening_of h.places l) (back_to es) w
       back_renews y e r g =
           renews_as h m y w (opening_of h.places l) (back_to es) f.lent f.long
-          (e ∙ ap (undone_at (j - 1)) (tail_is (shown_size h.places) m)
-          ∙ back_held h.places h.rules.arcs.states h.rules.arcs.values h.start l held_is j newest z)
-          (back_within h.places h.rules.arcs.states h.rules.arcs.values h.start l held_is j newest z) r g
+          (e ∙ ap (undone_at i) (tail_is (shown_size h.places) m)
+          ∙ back_held h.places h.rules.arcs.states h.rules.arcs.values h.start l held_is j newest i z)
+          (back_within h.places h.rules.arcs.states h.rules.arcs.values h.start l held_is j newest i z) r g
 
 -- a call by what `ready` answers
 module _ (h : Handed) (m w w' : List ℕ) (a : ℕ) (e : readiness a w' ≡ ready_of h m w) where
@@ -288,3 +289,11 @@ module _ (h : Handed) (m w w' : List ℕ) (a : ℕ) (e : readiness a w' ≡ read
     pub call_backs : 0 < marks (entries_of l') → (r : Left) → r ≡ became h (opening_of h.places l') (back_to (entries_of l')) w' → r ≡ called h going_back m w
     unfolding decided after
     call_backs c r g = rw (call_tail going_back, lt-ltb 0 (marks (entries_of l')) c) (g ∙ became_now _ _)
+
+-- what a call that goes on knows of what it is lent
+module _ (h : Handed) (m w w' : List ℕ) (e : readiness 0 w' ≡ ready_of h m w) where
+  pub ready_now : Formed h m w'
+  ready_now = ready_formed h m w w' 0 e refl
+
+  pub ready_bounds : (h.places ≤ most_places) × (length m ≡ memory_size h.places)
+  ready_bounds = ((bounds h m w' ready_now).1, ready_now.long)

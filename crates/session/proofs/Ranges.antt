@@ -3,7 +3,8 @@ use mathlib.Core.Path.{◌≡◌, refl}
 use mathlib.Core.Bool.{true, false}
 use Prim.Native.Nat.{ℕ, ◌^◌, ◌≤◌, ◌<◌}
 use lib.Dec.{ltb}
-use borrow.Author.Tests.{lt-ltb, le-ltb}
+use borrow.Author.Tests.{lt-ltb, le-ltb, ltb-true}
+use Rattle.rules.proofs.Checks.{both}
 use Rattle.meaning.specs.Meaning.{Keep, Limit}
 use Rattle.ledger.specs.Sessions.{decision, is_mark, decision_right}
 use Rattle.ledger.specs.Memory.{entry_of, row_right}
@@ -17,21 +18,14 @@ unfolding entry_of is_mark
 limit_entry p x = (refl, refl)
 
 module _ (n v p x : ℕ) where
-  pub keep_far : n ≤ p → decision_right n v (Keep p x) ≡ false
+  -- a keep in range, as its row is
+  pub keep_there : decision_right n v (Keep p x) ≡ true → p < n
   unfolding decision_right
-  keep_far h = rw (le-ltb p n h)
+  keep_there e = ltb-true p n (both (ltb p n) (ltb x (2 ^ v)) e).0
 
-  pub keep_wide : p < n → ltb x (2 ^ v) ≡ false → decision_right n v (Keep p x) ≡ false
-  unfolding decision_right
-  keep_wide h e = rw (lt-ltb p n h, e)
-
-  pub keep_right : p < n → ltb x (2 ^ v) ≡ true → decision_right n v (Keep p x) ≡ true
-  unfolding decision_right
-  keep_right h e = rw (lt-ltb p n h, e)
-
-  pub keep_row : p < n → ltb x (2 ^ v) ≡ true → row_right n v 1 p x ≡ true
-  unfolding row_right
-  keep_row h e = rw (lt-ltb p n h, e)
+  pub keep_row : decision_right n v (Keep p x) ≡ true → row_right n v 1 p x ≡ true
+  unfolding decision_right row_right
+  keep_row e = e
 
   pub limit_far : n ≤ p → decision_right n v (Limit p x) ≡ false
   unfolding decision_right

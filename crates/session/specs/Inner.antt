@@ -1,5 +1,5 @@
 -- What only the contracts of inner functions cite.
-use Rattle.std.specs.Prelude.{◌≡◌, true, cond, List, [], ◌∷◌, ◌++◌, ℕ, zero, suc, ◌+◌, ◌-◌, ◌*◌, ◌≤◌, eqb, ltb, length, get_or, take, drop, set, replicate}
+use Rattle.std.specs.Prelude.{◌≡◌, true, cond, Option, None, Some, List, [], ◌∷◌, ◌++◌, ℕ, zero, suc, ◌+◌, ◌-◌, ◌*◌, ◌≤◌, eqb, ltb, length, get_or, take, drop, set, replicate}
 use Rattle.rules.specs.Checks.{Handed}
 use Rattle.rules.specs.Answers.{check, decided, work_after, zeros}
 use Rattle.ledger.specs.Sessions.{Entry, is_mark, decisions}
@@ -20,10 +20,10 @@ pushed k p x l =
     let i = head_size + count_of l * row_size in
     set (set (set (set (set l i k) (i + 1) p) (i + 2) x) 4 (get_or l 4 0 + (1 - is_mark (entry_of k p x)))) 5 (get_or l 5 0 + is_mark (entry_of k p x))
 
--- the number of the newest mark among the first k entries, from 1; 0 where there is none
-unfoldable pub mark_at : ℕ → List ℕ → ℕ
-mark_at zero s = 0
-mark_at (suc k) s = cond (eqb (is_mark (entry_at s k)) 1) (suc k) (mark_at k s)
+-- the newest mark among the first k entries
+unfoldable pub mark_at : ℕ → List ℕ → Option ℕ
+mark_at zero s = None
+mark_at (suc k) s = cond (eqb (is_mark (entry_at s k)) 1) (Some k) (mark_at k s)
 
 -- only the first i entries stay, and the newest mark goes
 unfoldable pub undone_at : ℕ → List ℕ → List ℕ

@@ -1,46 +1,53 @@
 // What the calls share: a decision in range is taken, and the result on hand is an answer.
 ghost use Rattle.std.specs.Prelude.{◌≡◌, true, cond, eqb};
-ghost use Rattle.rules.specs.Checks.{handed};
-ghost use Rattle.rules.specs.Answers.{number_of};
-ghost use Rattle.ledger.specs.Sessions.{is_mark};
+ghost use Rattle.rules.specs.Checks.{handed_in};
+ghost use Rattle.rules.specs.Answers.{answer_of};
+ghost use Rattle.meaning.specs.Meaning.{Keep};
+ghost use Rattle.ledger.specs.Sessions.{is_mark, decision_right};
 ghost use Rattle.ledger.specs.Readiness.{left};
 ghost use Rattle.ledger.specs.Memory.{entry_of, row_right};
 ghost use Rattle.session.specs.Inner.{Formed, decided_on};
 
 use crate::entries;
+use kinds::Mask;
 use machine::layout;
-use rules::{Answer, Size};
+use machine::rows::Row;
+use rules::{Answer, RuleSet};
+
+// Whether a keep's place and mask are in range.
+#[tactic(auto, unfolding(ledger::specs::Sessions::decision_right))]
+pub(crate) fn keep_right(places: usize, values: usize, place: usize, mask: Mask) -> bool
+    ensures { result ≡ decision_right places values (Keep place mask.0) }
+{
+    place < places && mask.within(values)
+}
 
 // The result on hand.
-pub(crate) fn on_hand(res: u32) -> Answer
-    ensures { number_of result ≡ cond (eqb res 0) 0 11 }
+pub(crate) fn on_hand(res: u32) -> Result<(), Answer>
+    ensures { answer_of result ≡ cond (eqb res 0) 0 11 }
 {
     if res == 0 {
-        return Answer::Done;
+        Ok(())
+    } else {
+        Err(Answer::NoRoster)
     }
-    Answer::NoRoster
 }
 
 // Takes a decision in range, unless as many stand as may.
 pub(crate) fn decide(
     places: usize,
-    size: Size,
-    targets: &[u8],
-    costs: &[u16],
-    accepting: u64,
-    kind: u32,
-    place: u32,
-    amount: u32,
+    rules: &RuleSet<'_>,
+    row: Row,
     memory: &mut [u32],
     work: &mut [u32],
-) -> Answer
-    requires { Formed (handed places size.states size.values size.start.0 targets.now costs.now accepting) memory.old work.old × (row_right places size.values kind place amount ≡ true) × (is_mark (entry_of kind place amount) ≡ 0) }
-    ensures { left (number_of result) memory.new work.new ≡ decided_on (handed places size.states size.values size.start.0 targets.now costs.now accepting) (entry_of kind place amount) memory.old work.old }
+) -> Result<(), Answer>
+    requires { Formed (handed_in places rules.now) memory.old work.old × (row_right places rules.now.size.values row.kind row.place row.amount ≡ true) × (is_mark (entry_of row.kind row.place row.amount) ≡ 0) }
+    ensures { left (answer_of result) memory.new work.new ≡ decided_on (handed_in places rules.now) (entry_of row.kind row.place row.amount) memory.old work.old }
 {
     let front = places + layout::SHOWN;
     if layout::MOST_DECISIONS <= memory[front + layout::DECISIONS] {
-        return Answer::DecisionsFull;
+        return Err(Answer::DecisionsFull);
     }
-    entries::push(&mut memory[front..], kind, place, amount);
-    machine::renew(places, size, targets, costs, accepting, memory, work)
+    entries::push(&mut memory[front..], row);
+    machine::renew(places, rules, memory, work)
 }

@@ -4,43 +4,40 @@ ghost use Rattle.ledger.specs.Layout.{most_entries, rows_size};
 ghost use Rattle.ledger.specs.Memory.{count_of, rows_of};
 ghost use Rattle.session.specs.Inner.{Counted, pushed, mark_at, undone_at};
 
-use machine::{layout, rows};
-use rules::numbers::clear;
+use machine::layout;
+use machine::rows::{self, Row};
 
 // Writes one more entry behind the others, and counts it.
-pub(crate) fn push(held: &mut [u32], kind: u32, place: u32, amount: u32)
+pub(crate) fn push(held: &mut [u32], row: Row)
     requires { Counted held.old × (get_or held.old 4 0 + get_or held.old 5 0 < most_entries) }
-    ensures { held.new ≡ pushed kind place amount held.old }
+    ensures { held.new ≡ pushed row.kind row.place row.amount held.old }
 {
     let decisions = held[layout::DECISIONS];
     let marks = held[layout::MARKS];
-    let mark = rows::mark_of(kind);
+    let mark = u32::from(rows::is_mark(row.kind));
     let at = layout::ROWS + ((decisions + marks) as usize) * layout::ROW_SIZE;
-    held[at] = kind;
-    held[at + 1] = place;
-    held[at + 2] = amount;
+    held[at] = row.kind;
+    held[at + 1] = row.place;
+    held[at + 2] = row.amount;
     held[layout::DECISIONS] = decisions + (1 - mark);
     held[layout::MARKS] = marks + mark;
 }
 
-// The number of the newest mark among the first entries, from 1; 0 where there is none.
-fn mark_at(count: usize, rows: &[u32]) -> usize
+// The newest mark among the first entries.
+fn mark_at(count: usize, rows: &[u32]) -> Option<usize>
     requires { (count ≤ most_entries) × (length rows.now ≡ rows_size) }
     ensures { result ≡ mark_at count rows.now }
 {
-    let mut i = count;
-    while 0 < i {
-        let at = (i - 1) * layout::ROW_SIZE;
-        if rows::mark_of(rows[at]) == 1 {
-            return i;
+    for i in (0..count).rev() {
+        if rows::is_mark(rows[i * layout::ROW_SIZE]) {
+            return Some(i);
         }
-        i -= 1;
     }
-    0
+    None
 }
 
-// The number of the newest mark.
-pub(crate) fn newest_mark(held: &[u32]) -> usize
+// The newest mark.
+pub(crate) fn newest_mark(held: &[u32]) -> Option<usize>
     requires { Counted held.now }
     ensures { result ≡ mark_at (count_of held.now) (rows_of held.now) }
 {
@@ -50,14 +47,14 @@ pub(crate) fn newest_mark(held: &[u32]) -> usize
 
 // The entries from that mark on become zeros, and both counts follow.
 pub(crate) fn undo(held: &mut [u32], mark: usize)
-    requires { Counted held.old × (1 ≤ mark) × (mark ≤ get_or held.old 4 0 + get_or held.old 5 0) × (1 ≤ get_or held.old 5 0) × (get_or held.old 5 0 ≤ mark) }
-    ensures { held.new ≡ undone_at (mark - 1) held.old }
+    requires { Counted held.old × (mark < get_or held.old 4 0 + get_or held.old 5 0) × (1 ≤ get_or held.old 5 0) × (get_or held.old 5 0 ≤ mark + 1) }
+    ensures { held.new ≡ undone_at mark held.old }
 {
     let count = (held[layout::DECISIONS] + held[layout::MARKS]) as usize;
     let marks = held[layout::MARKS] - 1;
-    let start = layout::ROWS + (mark - 1) * layout::ROW_SIZE;
+    let start = layout::ROWS + mark * layout::ROW_SIZE;
     let end = layout::ROWS + count * layout::ROW_SIZE;
-    clear(&mut held[start..end]);
-    held[layout::DECISIONS] = (mark - 1) as u32 - marks;
+    held[start..end].fill(0);
+    held[layout::DECISIONS] = mark as u32 - marks;
     held[layout::MARKS] = marks;
 }

@@ -3,8 +3,8 @@
 
 ghost use Rattle.std.specs.Prelude.{◌≡◌};
 ghost use Rattle.meaning.specs.Meaning.{Keep, Limit};
-ghost use Rattle.rules.specs.Checks.{handed};
-ghost use Rattle.rules.specs.Answers.{number_of};
+ghost use Rattle.rules.specs.Checks.{handed_in};
+ghost use Rattle.rules.specs.Answers.{answer_of};
 ghost use Rattle.ledger.specs.Sessions.{opening, deciding, marking, going_back};
 ghost use Rattle.ledger.specs.Readiness.{left};
 ghost use Rattle.ledger.specs.Calls.{opened, called};
@@ -15,83 +15,63 @@ mod opening;
 
 use kinds::Mask;
 use machine::layout;
-use rules::numbers::clear;
-use rules::{Answer, Size};
+use machine::rows::{Kind, Row};
+use rules::{Answer, RuleSet, masks_right, rules_right, sizes_right};
 
 // Opens a session in memory of any content.
 pub fn open(
     places: usize,
-    size: Size,
-    targets: &[u8],
-    costs: &[u16],
-    accepting: u64,
+    rules: &RuleSet<'_>,
     masks: &[u16],
     limits: &[u32],
     memory: &mut [u32],
     work: &mut [u32],
-) -> Answer
-    ensures { left (number_of result) memory.new work.new ≡ opened (handed places size.states size.values size.start.0 targets.now costs.now accepting) (opening masks.now limits.now) memory.old work.old }
+) -> Result<(), Answer>
+    ensures { left (answer_of result) memory.new work.new ≡ opened (handed_in places rules.now) (opening masks.now limits.now) memory.old work.old }
 {
-    if !rules::sizes_right(places, size) {
-        return Answer::WrongSize;
+    let size = rules.size;
+    if !sizes_right(places, size) {
+        return Err(Answer::WrongSize);
     }
-    if !opening::lengths_right(
-        places,
-        targets,
-        costs,
-        masks,
-        limits,
-        memory.len(),
-        work.len(),
-    ) {
-        return Answer::WrongLength;
+    if !opening::lengths_right(places, rules, masks, limits, memory.len(), work.len()) {
+        return Err(Answer::WrongLength);
     }
-    if !rules::rules_right(size, targets, costs, accepting) {
-        clear(work);
-        return Answer::WrongTables;
+    if !rules_right(rules) {
+        work.fill(0);
+        return Err(Answer::WrongTables);
     }
-    if !rules::masks_right(size.values, masks) {
-        clear(work);
-        return Answer::WrongMask;
+    if !masks_right(size.values, masks) {
+        work.fill(0);
+        return Err(Answer::WrongMask);
     }
     let front = places + layout::SHOWN;
     opening::begin(places, size, masks, limits, &mut memory[front..]);
-    machine::renew(places, size, targets, costs, accepting, memory, work)
+    machine::renew(places, rules, memory, work)
 }
 
 // Keep: narrows one place to a mask.
 pub fn keep(
     places: usize,
-    size: Size,
-    targets: &[u8],
-    costs: &[u16],
-    accepting: u64,
+    rules: &RuleSet<'_>,
     place: usize,
     mask: u16,
     memory: &mut [u32],
     work: &mut [u32],
-) -> Answer
-    ensures { left (number_of result) memory.new work.new ≡ called (handed places size.states size.values size.start.0 targets.now costs.now accepting) (deciding (Keep place mask)) memory.old work.old }
+) -> Result<(), Answer>
+    ensures { left (answer_of result) memory.new work.new ≡ called (handed_in places rules.now) (deciding (Keep place mask)) memory.old work.old }
 {
-    let answer = machine::ready(places, size, targets, costs, accepting, memory, work);
-    if answer.number() != 0 {
-        return answer;
-    }
-    if places <= place {
-        return Answer::OutOfRange;
-    }
-    if !Mask(mask).within(size.values) {
-        return Answer::OutOfRange;
+    machine::ready(places, rules, memory, work)?;
+    if !asks::keep_right(places, rules.size.values, place, Mask(mask)) {
+        return Err(Answer::OutOfRange);
     }
     asks::decide(
         places,
-        size,
-        targets,
-        costs,
-        accepting,
-        layout::KEEP,
-        place as u32,
-        mask as u32,
+        rules,
+        Row {
+            kind: Kind::Keep as u32,
+            place: place as u32,
+            amount: mask as u32,
+        },
         memory,
         work,
     )
@@ -100,33 +80,26 @@ pub fn keep(
 // Limit: sets one place's limit to the smaller of the old and the given.
 pub fn limit(
     places: usize,
-    size: Size,
-    targets: &[u8],
-    costs: &[u16],
-    accepting: u64,
+    rules: &RuleSet<'_>,
     place: usize,
     cost: u32,
     memory: &mut [u32],
     work: &mut [u32],
-) -> Answer
-    ensures { left (number_of result) memory.new work.new ≡ called (handed places size.states size.values size.start.0 targets.now costs.now accepting) (deciding (Limit place cost)) memory.old work.old }
+) -> Result<(), Answer>
+    ensures { left (answer_of result) memory.new work.new ≡ called (handed_in places rules.now) (deciding (Limit place cost)) memory.old work.old }
 {
-    let answer = machine::ready(places, size, targets, costs, accepting, memory, work);
-    if answer.number() != 0 {
-        return answer;
-    }
+    machine::ready(places, rules, memory, work)?;
     if places <= place {
-        return Answer::OutOfRange;
+        return Err(Answer::OutOfRange);
     }
     asks::decide(
         places,
-        size,
-        targets,
-        costs,
-        accepting,
-        layout::LIMIT,
-        place as u32,
-        cost,
+        rules,
+        Row {
+            kind: Kind::Limit as u32,
+            place: place as u32,
+            amount: cost,
+        },
         memory,
         work,
     )
@@ -135,48 +108,40 @@ pub fn limit(
 // Mark: opens a mark. What is shown stays, so nothing is renewed.
 pub fn mark(
     places: usize,
-    size: Size,
-    targets: &[u8],
-    costs: &[u16],
-    accepting: u64,
+    rules: &RuleSet<'_>,
     memory: &mut [u32],
     work: &mut [u32],
-) -> Answer
-    ensures { left (number_of result) memory.new work.new ≡ called (handed places size.states size.values size.start.0 targets.now costs.now accepting) marking memory.old work.old }
+) -> Result<(), Answer>
+    ensures { left (answer_of result) memory.new work.new ≡ called (handed_in places rules.now) marking memory.old work.old }
 {
-    let answer = machine::ready(places, size, targets, costs, accepting, memory, work);
-    if answer.number() != 0 {
-        return answer;
-    }
+    machine::ready(places, rules, memory, work)?;
     let front = places + layout::SHOWN;
     if layout::MOST_MARKS <= memory[front + layout::MARKS] {
-        return Answer::MarksFull;
+        return Err(Answer::MarksFull);
     }
-    entries::push(&mut memory[front..], layout::MARK, 0, 0);
-    asks::on_hand(memory[0])
+    let row = Row {
+        kind: Kind::Mark as u32,
+        place: 0,
+        amount: 0,
+    };
+    entries::push(&mut memory[front..], row);
+    asks::on_hand(memory[layout::RESULT])
 }
 
 // Back: removes the newest open mark and every decision after it.
 pub fn back(
     places: usize,
-    size: Size,
-    targets: &[u8],
-    costs: &[u16],
-    accepting: u64,
+    rules: &RuleSet<'_>,
     memory: &mut [u32],
     work: &mut [u32],
-) -> Answer
-    ensures { left (number_of result) memory.new work.new ≡ called (handed places size.states size.values size.start.0 targets.now costs.now accepting) going_back memory.old work.old }
+) -> Result<(), Answer>
+    ensures { left (answer_of result) memory.new work.new ≡ called (handed_in places rules.now) going_back memory.old work.old }
 {
-    let answer = machine::ready(places, size, targets, costs, accepting, memory, work);
-    if answer.number() != 0 {
-        return answer;
-    }
+    machine::ready(places, rules, memory, work)?;
     let front = places + layout::SHOWN;
-    let mark = entries::newest_mark(&memory[front..]);
-    if mark == 0 {
-        return Answer::NoMark;
-    }
+    let Some(mark) = entries::newest_mark(&memory[front..]) else {
+        return Err(Answer::NoMark);
+    };
     entries::undo(&mut memory[front..], mark);
-    machine::renew(places, size, targets, costs, accepting, memory, work)
+    machine::renew(places, rules, memory, work)
 }

@@ -8,35 +8,26 @@ ghost use Rattle.ledger.specs.Layout.{held_size};
 ghost use Rattle.ledger.specs.Memory.{held_of};
 
 use machine::{layout, lists};
-use rules::numbers::clear;
-use rules::{Size, bounds};
+use rules::{RuleSet, Size, bounds, tables_long};
 
 // Whether all that an opening is lent has its length, with a memory and a work table of so many numbers.
+#[tactic(auto, unfolding(ledger::specs::Calls::open_long))]
 pub(crate) fn lengths_right(
     places: usize,
-    targets: &[u8],
-    costs: &[u16],
+    rules: &RuleSet<'_>,
     masks: &[u16],
     limits: &[u32],
     memory: usize,
     work: usize,
 ) -> bool
     requires { places ≤ most_places }
-    ensures { result ≡ (tables_long targets.now costs.now && open_long places (opening masks.now limits.now) memory work) }
+    ensures { result ≡ (tables_long rules.now.targets.now rules.now.costs.now && open_long places (opening masks.now limits.now) memory work) }
 {
-    if !rules::tables_long(targets, costs) {
-        return false;
-    }
-    if memory != 3 * places + layout::REST_SIZE {
-        return false;
-    }
-    if work != (places + 1) * bounds::MOST_STATES {
-        return false;
-    }
-    if masks.len() != places {
-        return false;
-    }
-    limits.len() == places
+    tables_long(rules.targets, rules.costs)
+        && memory == 3 * places + layout::REST_SIZE
+        && work == (places + 1) * bounds::MOST_STATES
+        && masks.len() == places
+        && limits.len() == places
 }
 
 // The opening masks and limits, into memory.
@@ -53,11 +44,10 @@ pub(crate) fn begin(places: usize, size: Size, masks: &[u16], limits: &[u32], he
     requires { (places ≤ most_places) × (size.states ≤ most_states) × (size.values ≤ most_values) × (length masks.now ≡ places) × (length limits.now ≡ places) × (length held.old ≡ held_size places) }
     ensures { held.new ≡ held_of places size.states size.values size.start.0 (opening masks.now limits.now) [] }
 {
-    let start = size.start;
-    clear(held);
+    held.fill(0);
     store(places, masks, limits, &mut held[layout::OPENING..]);
-    held[0] = places as u32;
-    held[1] = size.states as u32;
-    held[2] = size.values as u32;
-    held[3] = start.0 as u32;
+    held[layout::PLACES] = places as u32;
+    held[layout::STATES] = size.states as u32;
+    held[layout::VALUES] = size.values as u32;
+    held[layout::START] = u32::from(size.start.0);
 }

@@ -4,7 +4,7 @@ use mathlib.Core.Bool.{Bool, true, false, cond}
 use mathlib.Core.List.{List, ◌∷◌}
 use Prim.Native.Nat.{ℕ}
 use Rattle.rules.specs.declared.Size.{Size}
-use Rattle.text.specs.Lines.{wrong}
+use Rattle.std.specs.Prelude.{Err}
 use Rattle.text.specs.Fields.{IsLine, field, Test, test, judged, is_word}
 use Rattle.text.specs.declared.lines.Fault.TheVariants.{Form}
 use Rattle.text.proofs.Fields.{FromField, field_step, last_step, no_word, word_step, only_word}
@@ -32,7 +32,7 @@ arc_by_fields z next l s p =
     (λ s p. last_step p _ _ _ _ _ (λ r. refl))))
 
 by_word : {A : Type 0} (b c : Bool) (ts us : List Test) (x y : A)
-    → judged (cond b ts (test Form c ∷ us)) (cond b x y) ≡ cond b (judged ts x) (cond c (judged us y) (wrong Form))
+    → judged (cond b ts (test Form c ∷ us)) (cond b x y) ≡ cond b (judged ts x) (cond c (judged us y) (Err Form))
 unfolding judged
 by_word true c ts us x y = refl
 by_word false c ts us x y = refl

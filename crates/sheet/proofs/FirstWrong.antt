@@ -8,11 +8,12 @@ use native.Mathlib.Omega.{arith}
 use lib.Dec.{eqb}
 use lib.ListN.{length, length-append}
 use borrow.Author.Tests.{eqb-false}
+use Rattle.std.specs.Prelude.{Ok, Err}
 use Rattle.rules.specs.Checks.{tables_long}
 use Rattle.rules.specs.Answers.{check, decided}
 use Rattle.rules.specs.declared.Size.{Size}
 use Rattle.rules.proofs.Checks.{never}
-use Rattle.text.specs.Lines.{Judged, right, wrong, lines, on_judged}
+use Rattle.text.specs.Lines.{Judged, lines, on_judged}
 use Rattle.text.specs.Fields.{judged}
 use Rattle.text.specs.declared.lines.Fault.{Fault}
 use Rattle.text.specs.declared.lines.Fault.TheVariants.{Form, Range, Order, Cut}
@@ -59,10 +60,10 @@ rest_seen s {before = before} {z = z} {next = next} r (l ∷ rest) e =
     k = omega (arith, length-append before (l ∷ []))
 
     go : (x : Judged Line) → read_line z next l ≡ x
-        → ((a : Line) → judged (line_tests z next l) (line_in l) ≡ right a → Seen s (read_rest z (suc (place z a)) (suc (length (before ++ l ∷ []))) rest))
+        → ((a : Line) → judged (line_tests z next l) (line_in l) ≡ Ok a → Seen s (read_rest z (suc (place z a)) (suc (length (before ++ l ∷ []))) rest))
         → Seen s (on_judged x (λ a. with_line a (read_rest z (suc (place z a)) (suc (suc (length before))) rest)) (wrong_at (suc (length before))))
-    go (right a) w rec = with_seen s a (read_rest z (suc (place z a)) (suc (suc (length before))) rest) (rw k at (rec a (sym j ∙ w)))
-    go (wrong f) w rec = later before l rest e r (sym j ∙ w)
+    go (Ok a) w rec = with_seen s a (read_rest z (suc (place z a)) (suc (suc (length before))) rest) (rw k at (rec a (sym j ∙ w)))
+    go (Err f) w rec = later before l rest e r (sym j ∙ w)
 
 -- what a sheet is, by the answer that it gets
 data Kind : ℕ → Sheet → Type 0 where
@@ -137,8 +138,8 @@ unfolding read_sheet read_lines
 seen s = go (lines s) refl
   where
     first : (l : List ℕ) (ls : List (List ℕ)) → lines s ≡ l ∷ ls → (x : Judged Size) → judged (size_tests l) (size_in l) ≡ x → Seen s (on_judged x (λ z. read_rest z 0 2 ls) (wrong_at 1))
-    first l ls e (right z) j = rest_seen s (sized l z j) ls e
-    first l ls e (wrong f) j = top l ls e j
+    first l ls e (Ok z) j = rest_seen s (sized l z j) ls e
+    first l ls e (Err f) j = top l ls e j
 
     go : (ls : List (List ℕ)) → lines s ≡ ls → Seen s (read_lines ls)
     go [] e = empty (sym (lines_joined s) ∙ ap joined e)

@@ -9,50 +9,38 @@ use lib.Bits.{bit_or}
 use lib.Dec.{eqb}
 use lib.ListN.{length, take, drop, set, drop_of_length-le}
 use lib.Seq.{append_snoc, set_out}
-use borrow.Author.Fill.{fill_more}
+use Rattle.std.specs.Prelude.{Result, Ok, Err}
 use Rattle.kinds.specs.Bits.{bit, mask_of}
 use Rattle.kinds.proofs.Bits.{bit_mask, mask_is, mask_same, put_mask}
 use Rattle.meaning.specs.Lists.{any}
-use Rattle.meaning.specs.Bounds.{most_states, table_size}
-use Rattle.rules.proofs.Checks.{arc_place, never}
+use Rattle.meaning.specs.Bounds.{most_states}
+use Rattle.rules.proofs.Checks.{never}
 use Rattle.rules.specs.declared.Size.{Size}
 use Rattle.kinds.specs.declared.State.{State}
 use Rattle.kinds.specs.declared.Value.{Value}
-use Rattle.text.specs.Lines.{right, wrong, lines, LineAt}
+use Rattle.rules.specs.declared.Outline.{Outline}
+use Rattle.text.specs.Lines.{Judged, lines, LineAt}
 use Rattle.sheet.specs.Lines.{Line, final, arc, place, read_size, read_line}
-use Rattle.sheet.specs.Sheets.{Sheet, sheet, wrong_at, with_line, read_rest, read_lines, read_sheet, names, accepting_of, puts, the_target, the_cost, blank}
-use Rattle.sheet.specs.Inner.{Sized, top_view, row_view, row_lines, row_next, RowIn, Put, Took}
+use Rattle.sheet.specs.Sheets.{Sheet, sheet, wrong_at, with_line, read_rest, read_lines, read_sheet, names, accepting_of, puts, the_target, the_cost}
+use Rattle.sheet.specs.Inner.{Sized, row_view, line_of, RowIn, Put, Took}
 use Rattle.text.specs.declared.lines.Fault.{Fault}
 use Rattle.text.specs.declared.lines.Fault.TheVariants.{Form}
-use Rattle.sheet.specs.declared.lines.Top.{Top}
-use Rattle.sheet.specs.declared.lines.Top.TheVariants as top
 use Rattle.sheet.specs.declared.lines.Row.{Row}
-use Rattle.sheet.specs.declared.lines.Row.TheVariants.{Final, Arc, Wrong}
-use Rattle.sheet.specs.declared.take.Taken.{Taken}
-use Rattle.sheet.specs.declared.take.Taken.TheVariants as taken
+use Rattle.sheet.specs.declared.lines.Row.TheVariants.{Final, Arc}
+use Rattle.sheet.specs.declared.Unread.{Unread}
+use Rattle.sheet.specs.declared.Unread.TheVariants.{WrongLine}
 use Rattle.sheet.proofs.Texts.{Lined, line_read, size_read}
 use Rattle.meaning.proofs.Lists.{any_append}
-
--- a table made blank place by place
-pub blank_more : (n x : ℕ) (xs : List ℕ) → n < length xs → set (blank n x xs) n x ≡ blank (n + 1) x xs
-unfolding blank
-blank_more n x xs h = fill_more n x xs h
 
 -- a row put into the mask and the tables
 pub final_in_lem : (z : Size) (r : Row) (q : State) → RowIn z r → r ≡ Final q → q.0 < z.states
 final_in_lem z r q g e = subst (λ (x : Row). RowIn z x) e g
 
-pub arc_fits : (z : Size) (r : Row) (q : State) (v : Value) (t : State) (c : ℕ) → Sized z → RowIn z r → r ≡ Arc q v t c → q.0 * z.values + v.0 < table_size
-arc_fits z r q v t c s g e =
-    let w : (q.0 < z.states) × (v.0 < z.values) = subst (λ (x : Row). RowIn z x) e g in
-    let k : z.states ≤ most_states = s.few_states_lem in
-    arc_place {v = z.values} (omega arith) s.few_values w.1
-
 mask_kept : (m : ℕ) → m < 2 ^ most_states → m ≡ mask_of (λ u. bit m u || false) most_states
 mask_kept m h = mask_is (λ u. bit m u || false) most_states m h (λ u l. sym (or-false (bit m u)))
 
 module _ (v m : ℕ) (t c : List ℕ) (r : Row) (h : m < 2 ^ most_states) where
-  pub put_final : (q : State) → r ≡ Final q → q.0 < most_states → Put v (row_lines r) m t c (bit_or m ((1 * 2 ^ q.0) % 2 ^ most_states)) t c
+  pub put_final : (q : State) → r ≡ Final q → q.0 < most_states → Put v (line_of r ∷ []) m t c (bit_or m ((1 * 2 ^ q.0) % 2 ^ most_states)) t c
   unfolding puts
   put_final q e l =
       rw e (record {
@@ -61,52 +49,35 @@ module _ (v m : ℕ) (t c : List ℕ) (r : Row) (h : m < 2 ^ most_states) where
         costs = refl;
       })
 
-  pub put_arc : (q : State) (w : Value) (x : State) (y i : ℕ) → r ≡ Arc q w x y → i ≡ q.0 * v + w.0 → Put v (row_lines r) m t c m (set t i x.0) (set c i y)
+  pub put_arc : (q : State) (w : Value) (x : State) (y i : ℕ) → r ≡ Arc q w x y → i ≡ q.0 * v + w.0 → Put v (line_of r ∷ []) m t c m (set t i x.0) (set c i y)
   unfolding puts
   put_arc q w x y i e p = rw (e, p) (record { mask = mask_kept m h; targets = refl; costs = refl })
 
   pub put_out : (q : State) (w : Value) (x : State) (y : ℕ) → r ≡ Arc q w x y → length t ≡ length c → length t ≤ q.0 * v + w.0
-      → Put v (row_lines r) m t c m t c
+      → Put v (line_of r ∷ []) m t c m t c
   unfolding puts
   put_out q w x y e k l =
       rw e (record { mask = mask_kept m h; targets = sym (set_out t (q.0 * v + w.0) x.0 l); costs = sym (set_out c (q.0 * v + w.0) y (omega arith)) })
 
-  pub put_wrong : (f : Fault) → r ≡ Wrong f → Put v (row_lines r) m t c m t c
-  unfolding puts
-  put_wrong f e = rw e (record { mask = mask_kept m h; targets = refl; costs = refl })
-
--- a row that was read is in range, and is a line
-pub row_in : (z : Size) (next : ℕ) (s : List ℕ) (r : Row) → Sized z → row_view r ≡ read_line z next s → RowIn z r
-row_in z next s (Final q) g e = (line_read z next s (final q.0) g.some_states g.some_values (sym e)).good
-row_in z next s (Arc q v t c) g e =
-    let w : Lined z next s (arc q.0 v.0 t.0 c) = line_read z next s (arc q.0 v.0 t.0 c) g.some_states g.some_values (sym e) in
+-- a row that was read is in range
+pub row_in : (z : Size) (next : ℕ) (s : List ℕ) (x : Judged Row) (r : Row) → Sized z → row_view x ≡ read_line z next s → x ≡ Ok r → RowIn z r
+row_in z next s x (Final q) g e k = (line_read z next s (final q.0) g.some_states g.some_values (sym e ∙ ap row_view k)).good
+row_in z next s x (Arc q v t c) g e k =
+    let w : Lined z next s (arc q.0 v.0 t.0 c) = line_read z next s (arc q.0 v.0 t.0 c) g.some_states g.some_values (sym e ∙ ap row_view k) in
     (w.good.0, w.good.1)
-row_in z next s (Wrong f) g e = tt
-
-pub record IsLine (z : Size) (r : Row) : Type 0 where
-  pub line : Line
-  pub view : row_view r ≡ right line
-  pub one : row_lines r ≡ line ∷ []
-  pub next : row_next z r ≡ suc (place z line)
-
-pub is_line : (z : Size) (r : Row) → ((f : Fault) → r ≡ Wrong f → ⊥) → IsLine z r
-unfolding place
-is_line z (Final q) o = record { line = final q.0; view = refl; one = refl; next = add-one q.0 }
-is_line z (Arc q v t c) o = record { line = arc q.0 v.0 t.0 c; view = refl; one = refl; next = add-one (z.states + (q.0 * z.values + v.0)) }
-is_line z (Wrong f) o = absurd (o f refl)
 
 -- what taking a sheet leaves
 took_right : (x : Sheet) (t₀ c₀ : List ℕ) (z : Size) (ls : List Line) (m : ℕ) (t c : List ℕ) → x ≡ sheet z ls → m ≡ accepting_of ls
-    → t ≡ puts z.values the_target ls t₀ → c ≡ puts z.values the_cost ls c₀ → Took x t₀ c₀ (taken.Right z m) t c
+    → t ≡ puts z.values the_target ls t₀ → c ≡ puts z.values the_cost ls c₀ → Took x t₀ c₀ (Ok (record { size = z; accepting = m })) t c
 took_right x t₀ c₀ z ls m t c e k h g =
     record {
-      tells = rw (e, k);
+      gives = rw (e, k);
       targets = λ y ms f. let p : z ≡ y = cc in let q : ls ≡ ms = cc in rw (← p, ← q) h;
       costs = λ y ms f. let p : z ≡ y = cc in let q : ls ≡ ms = cc in rw (← p, ← q) g;
     }
 
-pub took_wrong : (x : Sheet) (t₀ c₀ : List ℕ) (n : ℕ) (f : Fault) (t c : List ℕ) → x ≡ wrong_at n f → Took x t₀ c₀ (taken.Wrong n f) t c
-took_wrong x t₀ c₀ n f t c e = record { tells = rw e; targets = λ y ms f. never cc; costs = λ y ms f. never cc }
+pub took_wrong : (x : Sheet) (t₀ c₀ : List ℕ) (n : ℕ) (f : Fault) (t c : List ℕ) → x ≡ wrong_at n f → Took x t₀ c₀ (Err (WrongLine n f)) t c
+took_wrong x t₀ c₀ n f t c e = record { gives = rw e; targets = λ y ms f. never cc; costs = λ y ms f. never cc }
 
 -- the loop: the lines that are done, and what is left
 abbrev with_lines : List Line → Sheet → Sheet
@@ -159,23 +130,22 @@ taking_start z s from t c h =
       costs = refl;
     }
 
-rest_right : (z : Size) (next n : ℕ) (l : List ℕ) (ls : List (List ℕ)) (a : Line) → read_line z next l ≡ right a
+rest_right : (z : Size) (next n : ℕ) (l : List ℕ) (ls : List (List ℕ)) (a : Line) → read_line z next l ≡ Ok a
     → read_rest z next n (l ∷ ls) ≡ with_line a (read_rest z (suc (place z a)) (suc n) ls)
 unfolding read_rest
 rest_right z next n l ls a e = rw e
 
-rest_wrong : (z : Size) (next n : ℕ) (l : List ℕ) (ls : List (List ℕ)) (f : Fault) → read_line z next l ≡ wrong f → read_rest z next n (l ∷ ls) ≡ wrong_at n f
+rest_wrong : (z : Size) (next n : ℕ) (l : List ℕ) (ls : List (List ℕ)) (f : Fault) → read_line z next l ≡ Err f → read_rest z next n (l ∷ ls) ≡ wrong_at n f
 unfolding read_rest
 rest_wrong z next n l ls f e = rw e
 
 module _ (z : Size) (s : List ℕ) (from : ℕ) (t₀ c₀ : List ℕ) (at next n m : ℕ) (t c : List ℕ) (i : Taking z s from t₀ c₀ at next n m t c) where
-  pub taking_more : (end : ℕ) (r : Row) (n1 m1 : ℕ) (t1 c1 : List ℕ) → LineAt s at end → row_view r ≡ read_line z next (take (end - at) (drop at s)) → IsLine z r
-      → Put z.values (row_lines r) m t c m1 t1 c1 → n1 ≡ row_next z r → length t1 ≡ length t → length c1 ≡ length c
+  pub taking_more : (end : ℕ) (x : Judged Row) (r : Row) (n1 m1 : ℕ) (t1 c1 : List ℕ) → LineAt s at end → row_view x ≡ read_line z next (take (end - at) (drop at s)) → x ≡ Ok r
+      → Put z.values (line_of r ∷ []) m t c m1 t1 c1 → n1 ≡ place z (line_of r) + 1 → length t1 ≡ length t → length c1 ≡ length c
       → Taking z s from t₀ c₀ end n1 (n + 1) m1 t1 c1
-  taking_more end r n1 m1 t1 c1 l e k p h a b =
-      let x : Line = k.line in
-      let y : read_line z next (take (end - at) (drop at s)) ≡ right x = sym e ∙ k.view in
-      let q : Put z.values (x ∷ []) m t c m1 t1 c1 = rw k.one at p in
+  taking_more end v r n1 m1 t1 c1 l e k q h a b =
+      let x : Line = line_of r in
+      let y : read_line z next (take (end - at) (drop at s)) ≡ Ok x = sym e ∙ ap row_view k in
       let low : at < end = l.low in
       let few : n ≤ at + 2 = i.count in
       record {
@@ -189,22 +159,22 @@ module _ (z : Size) (s : List ℕ) (from : ℕ) (t₀ c₀ : List ℕ) (at next 
             ∙ ap (λ (ls : List (List ℕ)). with_lines i.ds (read_rest z next n ls)) l.cuts
             ∙ ap (with_lines i.ds) (rest_right z next n (take (end - at) (drop at s)) (lines (drop end s)) x y)
             ∙ with_more i.ds x (read_rest z (suc (place z x)) (suc n) (lines (drop end s)))
-            ∙ ap₂ (λ (j k : ℕ). with_lines (i.ds ++ x ∷ []) (read_rest z j k (lines (drop end s)))) (sym (h ∙ k.next)) (sym (add-one n));
+            ∙ ap₂ (λ (j k : ℕ). with_lines (i.ds ++ x ∷ []) (read_rest z j k (lines (drop end s)))) (sym (h ∙ add-one (place z x))) (sym (add-one n));
         mask = q.mask ∙ ap (λ (w : ℕ). mask_of (λ u. bit w u || any (names u) (x ∷ [])) most_states) i.mask ∙ mask_more i.ds x;
         targets = q.targets ∙ ap (puts z.values the_target (x ∷ [])) i.targets ∙ sym (puts_append z.values the_target i.ds (x ∷ []) t₀);
         costs = q.costs ∙ ap (puts z.values the_cost (x ∷ [])) i.costs ∙ sym (puts_append z.values the_cost i.ds (x ∷ []) c₀);
       }
 
-  pub taking_wrong : (end : ℕ) (r : Row) (f : Fault) → LineAt s at end → row_view r ≡ read_line z next (take (end - at) (drop at s)) → r ≡ Wrong f
-      → Took (read_rest z 0 2 (lines (drop from s))) t₀ c₀ (taken.Wrong n f) t c
-  taking_wrong end r f l e k =
-      let y : read_line z next (take (end - at) (drop at s)) ≡ wrong f = sym e ∙ ap row_view k in
+  pub taking_wrong : (end : ℕ) (x : Judged Row) (f : Fault) → LineAt s at end → row_view x ≡ read_line z next (take (end - at) (drop at s)) → x ≡ Err f
+      → Took (read_rest z 0 2 (lines (drop from s))) t₀ c₀ (Err (WrongLine n f)) t c
+  taking_wrong end x f l e k =
+      let y : read_line z next (take (end - at) (drop at s)) ≡ Err f = sym e ∙ ap row_view k in
       took_wrong _ t₀ c₀ n f t c
       (i.whole
       ∙ ap (λ (ls : List (List ℕ)). with_lines i.ds (read_rest z next n ls)) l.cuts
       ∙ ap (with_lines i.ds) (rest_wrong z next n (take (end - at) (drop at s)) (lines (drop end s)) f y))
 
-  pub taking_end : length s ≤ at → Took (read_rest z 0 2 (lines (drop from s))) t₀ c₀ (taken.Right z m) t c
+  pub taking_end : length s ≤ at → Took (read_rest z 0 2 (lines (drop from s))) t₀ c₀ (Ok (record { size = z; accepting = m })) t c
   unfolding read_rest lines
   taking_end h =
       took_right _ t₀ c₀ z i.ds m t c
@@ -216,21 +186,21 @@ unfolding read_sheet read_lines lines
 sheet_empty [] h = refl
 sheet_empty (b ∷ s) h = absurd (omega arith)
 
-module _ (s : List ℕ) (end : ℕ) (l : LineAt s 0 end) (g : Top) (h : top_view g ≡ read_size (take end s)) where
+module _ (s : List ℕ) (end : ℕ) (l : LineAt s 0 end) (g : Judged Size) (h : g ≡ read_size (take end s)) where
   sheet_lines : read_sheet s ≡ read_lines (take end s ∷ lines (drop end s))
   unfolding read_sheet
   sheet_lines = let z : end - 0 ≡ end = omega arith in rw z at (ap read_lines l.cuts)
 
-  pub took_top : (z : Size) → g ≡ top.Right z → (t₀ c₀ : List ℕ) (r : Taken) (t c : List ℕ) → Took (read_rest z 0 2 (lines (drop end s))) t₀ c₀ r t c → Took (read_sheet s) t₀ c₀ r t c
+  pub took_top : (z : Size) → g ≡ Ok z → (t₀ c₀ : List ℕ) (r : Result Outline Unread) (t c : List ℕ) → Took (read_rest z 0 2 (lines (drop end s))) t₀ c₀ r t c → Took (read_sheet s) t₀ c₀ r t c
   unfolding read_lines
   took_top z k t₀ c₀ r t c w =
-      let y : read_size (take end s) ≡ right z = sym h ∙ ap top_view k in
+      let y : read_size (take end s) ≡ Ok z = sym h ∙ k in
       let e : read_sheet s ≡ read_rest z 0 2 (lines (drop end s)) = sheet_lines ∙ rw y in
       rw e w
 
-  pub top_wrong : (f : Fault) → g ≡ top.Wrong f → read_sheet s ≡ wrong_at 1 f
+  pub top_wrong : (f : Fault) → g ≡ Err f → read_sheet s ≡ wrong_at 1 f
   unfolding read_lines
-  top_wrong f k = let y : read_size (take end s) ≡ wrong f = sym h ∙ ap top_view k in sheet_lines ∙ rw y
+  top_wrong f k = let y : read_size (take end s) ≡ Err f = sym h ∙ k in sheet_lines ∙ rw y
 
-  pub top_sized : (z : Size) → g ≡ top.Right z → Sized z
-  top_sized z k = (size_read (take end s) z (sym h ∙ ap top_view k)).1
+  pub top_sized : (z : Size) → g ≡ Ok z → Sized z
+  top_sized z k = (size_read (take end s) z (sym h ∙ k)).1

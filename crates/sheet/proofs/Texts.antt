@@ -9,13 +9,14 @@ use lib.Dec.{leb, eqb}
 use borrow.Author.Tests.{le-leb, leb-true}
 use Rattle.text.proofs.Judging.{strip_word_lem, strip_read, on_field_right, close_right, on_strip_right}
 use Rattle.text.proofs.Cutting.{OneLine, stop, more, lines_one}
+use Rattle.std.specs.Prelude.{Ok, Err}
 use Rattle.meaning.specs.Lists.{each}
 use Rattle.meaning.specs.Bounds.{most_states, most_values, most_cost}
 use Rattle.rules.proofs.Checks.{never}
 use Rattle.rules.specs.declared.Size.{Size}
 use Rattle.text.specs.Bytes.{tab, feed}
 use Rattle.text.specs.Numbers.{decimal, read_number, read_field, field_end}
-use Rattle.text.specs.Lines.{Judged, right, wrong, Stripped, rest, other, strip, on_strip, ending, on_judged, onto, lines}
+use Rattle.text.specs.Lines.{Judged, Stripped, rest, other, strip, on_strip, ending, on_judged, onto, lines}
 use Rattle.sheet.specs.Lines.{size_of, Line, final, arc, size_word, final_word, arc_word, size_text, line_text, place, read_size, read_final, read_arc, read_line}
 use Rattle.sheet.specs.Sheets.{Sheet, sheet, wrong_at, with_line, read_rest, read_lines, read_sheet, text_of}
 use Rattle.sheet.specs.Inner.{Sized}
@@ -32,7 +33,7 @@ Rising z next [] = Unit
 Rising z next (l ∷ ls) = LineIn z l × (next ≤ place z l) × Rising z (suc (place z l)) ls
 
 -- the size line
-size_text_lem : (z : Size) → Sized z → read_size (size_text z) ≡ right z
+size_text_lem : (z : Size) → Sized z → read_size (size_text z) ≡ Ok z
 unfolding read_size size_text ending field_end
 size_text_lem z g =
     let r2 : List ℕ = decimal z.start.0 ++ feed ∷ [] in
@@ -50,7 +51,7 @@ size_made s r0 r1 r2 r3 q v t z e g1 g2 g3 c =
       record { some_states = h1; few_states_lem = g1.high; some_values = g2.low; few_values = g2.high; start_state = omega arith },
     )
 
-pub size_read : (s : List ℕ) (z : Size) → read_size s ≡ right z → (s ≡ size_text z) × Sized z
+pub size_read : (s : List ℕ) (z : Size) → read_size s ≡ Ok z → (s ≡ size_text z) × Sized z
 unfolding read_size
 size_read s z e =
     let (r0, e0, f0) = on_strip_right (strip size_word s) _ z e in
@@ -60,7 +61,7 @@ size_read s z e =
     size_made s r0 r1 r2 r3 q v t z e0 (field_read 1 most_states r0 q r1 e1) (field_read 1 most_values r1 v r2 e2) (number_read 0 (q - 1) r2 t r3 e3) (close_right true (size_of q v t) z r3 f3)
 
 -- a later line
-line_text_lem : (z : Size) (next : ℕ) (l : Line) → LineIn z l → next ≤ place z l → read_line z next (line_text l) ≡ right l
+line_text_lem : (z : Size) (next : ℕ) (l : Line) → LineIn z l → next ≤ place z l → read_line z next (line_text l) ≡ Ok l
 unfolding read_line read_final read_arc line_text ending field_end strip
 line_text_lem z next (final q) g h =
     rw (read_decimal 0 (z.states - 1) q (feed ∷ []) (omega arith) (omega arith) refl, le-leb next (place z (final q)) h)
@@ -97,13 +98,13 @@ arc_made z next s r0 r1 r2 r3 r4 q v t c l h k e g1 g2 g3 g4 x =
       later = leb-true _ _ x.1;
     })
 
-final_read : (z : Size) (next : ℕ) (s r0 : List ℕ) (l : Line) → 1 ≤ z.states → strip final_word s ≡ rest r0 → read_final z next r0 ≡ right l → Lined z next s l
+final_read : (z : Size) (next : ℕ) (s r0 : List ℕ) (l : Line) → 1 ≤ z.states → strip final_word s ≡ rest r0 → read_final z next r0 ≡ Ok l → Lined z next s l
 unfolding read_final
 final_read z next s r0 l h e f =
     let (q, r1, e1, f1) = on_field_right (read_number 0 (z.states - 1) r0) _ l f in
     final_made z next s r0 r1 q l h e (number_read 0 (z.states - 1) r0 q r1 e1) (close_right _ (final q) l r1 f1)
 
-arc_read : (z : Size) (next : ℕ) (s r0 : List ℕ) (l : Line) → 1 ≤ z.states → 1 ≤ z.values → strip arc_word s ≡ rest r0 → read_arc z next r0 ≡ right l → Lined z next s l
+arc_read : (z : Size) (next : ℕ) (s r0 : List ℕ) (l : Line) → 1 ≤ z.states → 1 ≤ z.values → strip arc_word s ≡ rest r0 → read_arc z next r0 ≡ Ok l → Lined z next s l
 unfolding read_arc
 arc_read z next s r0 l h k e f =
     let (q, r1, e1, f1) = on_field_right (read_field 0 (z.states - 1) r0) _ l f in
@@ -112,14 +113,14 @@ arc_read z next s r0 l h k e f =
     let (c, r4, e4, f4) = on_field_right (read_number 0 most_cost r3) _ l f3 in
     arc_made z next s r0 r1 r2 r3 r4 q v t c l h k e (field_read _ _ r0 q r1 e1) (field_read _ _ r1 v r2 e2) (field_read _ _ r2 t r3 e3) (number_read _ _ r3 c r4 e4) (close_right _ (arc q v t c) l r4 f4)
 
-pub line_read : (z : Size) (next : ℕ) (s : List ℕ) (l : Line) → 1 ≤ z.states → 1 ≤ z.values → read_line z next s ≡ right l → Lined z next s l
+pub line_read : (z : Size) (next : ℕ) (s : List ℕ) (l : Line) → 1 ≤ z.states → 1 ≤ z.values → read_line z next s ≡ Ok l → Lined z next s l
 unfolding read_line
 line_read z next s l h k e = go (strip final_word s) refl
   where
     go : (x : Stripped) → strip final_word s ≡ x → Lined z next s l
     go (rest r) w = final_read z next s r l h w (rw w at e)
     go other w =
-        let e2 : on_strip (strip arc_word s) (λ s. read_arc z next s) (wrong Form) ≡ right l = rw w at e in
+        let e2 : on_strip (strip arc_word s) (λ s. read_arc z next s) (Err Form) ≡ Ok l = rw w at e in
         let (r, x, f) = on_strip_right (strip arc_word s) _ l e2 in
         arc_read z next s r l h k x f
 
@@ -176,9 +177,9 @@ lines_joined (b ∷ s) = go (eqb b feed) (lines s) ∙ ap (λ (t : List ℕ). b 
     go false [] = refl
     go false (l ∷ ls) = refl
 
-on_judged_sheet : {A : Type 0} (x : Judged A) (f : A → Sheet) (n : ℕ) (z : Size) (ls : List Line) → on_judged x f (λ y. wrong_at n y) ≡ sheet z ls → (a : A) × (x ≡ right a) × (f a ≡ sheet z ls)
-on_judged_sheet (right a) f n z ls e = (a, refl, e)
-on_judged_sheet (wrong y) f n z ls e = never cc
+on_judged_sheet : {A : Type 0} (x : Judged A) (f : A → Sheet) (n : ℕ) (z : Size) (ls : List Line) → on_judged x f (λ y. wrong_at n y) ≡ sheet z ls → (a : A) × (x ≡ Ok a) × (f a ≡ sheet z ls)
+on_judged_sheet (Ok a) f n z ls e = (a, refl, e)
+on_judged_sheet (Err y) f n z ls e = never cc
 
 with_line_sheet : (a : Line) (x : Sheet) (z : Size) (ls : List Line) → with_line a x ≡ sheet z ls → (ms : List Line) × (x ≡ sheet z ms) × (ls ≡ a ∷ ms)
 with_line_sheet a (sheet y ms) z ls e = (ms, cc, cc)

@@ -5,9 +5,10 @@ use mathlib.Core.List.{List, [], ◌∷◌}
 use Prim.Native.Nat.{ℕ, suc, ◌+◌, ◌≤◌, ◌<◌}
 use native.Mathlib.Omega.{arith}
 use lib.ListN.{length}
+use Rattle.std.specs.Prelude.{Ok, Err}
 use Rattle.rules.specs.Checks.{tables_long}
 use Rattle.rules.specs.declared.Size.{Size}
-use Rattle.text.specs.Lines.{Judged, right, wrong, lines, on_judged}
+use Rattle.text.specs.Lines.{Judged, lines, on_judged}
 use Rattle.text.proofs.Cutting.{lines_length}
 use Rattle.sheet.specs.Lines.{Line, place, read_size, read_line}
 use Rattle.sheet.specs.Sheets.{Sheet, sheet, wrong_at, with_line, read_rest, read_lines, read_sheet}
@@ -28,8 +29,8 @@ rest_in b z next n [] h = tt
 rest_in b z next n (l ∷ ls) h = go (read_line z next l) (λ i. rest_in b z i (suc n) ls (omega arith))
   where
     go : (x : Judged Line) → ((i : ℕ) → SheetIn b (read_rest z i (suc n) ls)) → SheetIn b (on_judged x (λ a. with_line a (read_rest z (suc (place z a)) (suc n) ls)) (wrong_at n))
-    go (right a) m = with_line_in b a (read_rest z (suc (place z a)) (suc n) ls) (m (suc (place z a)))
-    go (wrong f) m = omega arith
+    go (Ok a) m = with_line_in b a (read_rest z (suc (place z a)) (suc n) ls) (m (suc (place z a)))
+    go (Err f) m = omega arith
 
 read_in : (b : ℕ) (ls : List (List ℕ)) → length ls < b → SheetIn b (read_lines ls)
 unfolding read_lines
@@ -37,8 +38,8 @@ read_in b [] h = omega arith
 read_in b (l ∷ ls) h = go (read_size l)
   where
     go : (x : Judged Size) → SheetIn b (on_judged x (λ z. read_rest z 0 2 ls) (wrong_at 1))
-    go (right z) = rest_in b z 0 2 ls (omega arith)
-    go (wrong f) = omega arith
+    go (Ok z) = rest_in b z 0 2 ls (omega arith)
+    go (Err f) = omega arith
 
 pub read_line_lem : (s t c : List ℕ) → (read_of s t c).line ≤ suc (length s)
 unfolding read_sheet

@@ -1,9 +1,9 @@
 -- THE FAULT OF A WRONG SHEET: that of its first wrong line, told by the line's fields from left to right.
-use Rattle.std.specs.Prelude.{◌≡◌, true, cond, List, [], ◌∷◌, ◌++◌, ℕ, suc, ◌-◌, leb, length}
+use Rattle.std.specs.Prelude.{◌≡◌, true, cond, Ok, Err, List, [], ◌∷◌, ◌++◌, ℕ, suc, ◌-◌, leb, length}
 use Rattle.meaning.specs.Bounds.{most_states, most_values, most_cost}
 use Rattle.rules.specs.declared.Size.{Size}
 use Rattle.text.specs.Numbers.{value}
-use Rattle.text.specs.Lines.{right, wrong, lines}
+use Rattle.text.specs.Lines.{lines}
 use Rattle.text.specs.Fields.{field, Test, test, judged, is_word, number_test, last_tests}
 use Rattle.text.specs.declared.lines.Fault.{Fault}
 use Rattle.text.specs.declared.lines.Fault.TheVariants.{Form}
@@ -53,13 +53,13 @@ line_in l = cond (is_word final_name (field 0 l)) (final_in l) (arc_in l)
 
 -- right lines, a size line first: the size, and the first place that they leave free
 pub data RightLines : List (List ℕ) → Size → ℕ → Type 0 where
-  sized : (l : List ℕ) (z : Size) → judged (size_tests l) (size_in l) ≡ right z → RightLines (l ∷ []) z 0
-  lined : {ls : List (List ℕ)} {z : Size} {next : ℕ} → RightLines ls z next → (l : List ℕ) (a : Line) → judged (line_tests z next l) (line_in l) ≡ right a
+  sized : (l : List ℕ) (z : Size) → judged (size_tests l) (size_in l) ≡ Ok z → RightLines (l ∷ []) z 0
+  lined : {ls : List (List ℕ)} {z : Size} {next : ℕ} → RightLines ls z next → (l : List ℕ) (a : Line) → judged (line_tests z next l) (line_in l) ≡ Ok a
       → RightLines (ls ++ l ∷ []) z (suc (place z a))
 
 -- THE FIRST WRONG LINE of a text, from 1, and its first fault: an empty text is wrong at line 1; the lines before a wrong one are right
 pub data FirstWrong (s : List ℕ) : ℕ → Fault → Type 0 where
   empty : s ≡ [] → FirstWrong s 1 Form
-  top : {f : Fault} (l : List ℕ) (after : List (List ℕ)) → lines s ≡ l ∷ after → judged (size_tests l) (size_in l) ≡ wrong f → FirstWrong s 1 f
+  top : {f : Fault} (l : List ℕ) (after : List (List ℕ)) → lines s ≡ l ∷ after → judged (size_tests l) (size_in l) ≡ Err f → FirstWrong s 1 f
   later : {f : Fault} {z : Size} {next : ℕ} (before : List (List ℕ)) (l : List ℕ) (after : List (List ℕ)) → lines s ≡ before ++ l ∷ after
-      → RightLines before z next → judged (line_tests z next l) (line_in l) ≡ wrong f → FirstWrong s (suc (length before)) f
+      → RightLines before z next → judged (line_tests z next l) (line_in l) ≡ Err f → FirstWrong s (suc (length before)) f

@@ -1,6 +1,6 @@
 -- The lines of a sheet: what a line says, its text, and the judgement of one line.
-use Rattle.std.specs.Prelude.{true, List, [], ◌∷◌, ◌++◌, ℕ, ◌+◌, ◌-◌, ◌*◌, leb}
-use Rattle.text.specs.Lines.{Judged, wrong, strip, on_strip, on_field, close}
+use Rattle.std.specs.Prelude.{true, Err, List, [], ◌∷◌, ◌++◌, ℕ, ◌+◌, ◌-◌, ◌*◌, leb}
+use Rattle.text.specs.Lines.{Judged, strip, on_strip, on_field, close}
 use Rattle.meaning.specs.Bounds.{most_states, most_values, most_cost}
 use Rattle.rules.specs.declared.Size.{Size}
 use Rattle.text.specs.Bytes.{tab, feed}
@@ -56,7 +56,7 @@ read_size s =
     (λ q s. on_field (read_field 1 most_values s)
     (λ v s. on_field (read_number 0 (q - 1) s)
     (λ t s. close true (size_of q v t) s))))
-    (wrong Form)
+    (Err Form)
 
 -- past its word, a final line or an arc line, where `next` is the first place that is still free
 unfoldable pub read_final : Size → ℕ → List ℕ → Judged Line
@@ -75,4 +75,4 @@ read_arc z next s =
 unfoldable pub read_line : Size → ℕ → List ℕ → Judged Line
 unfolding read_final read_arc
 read_line z next s =
-    on_strip (strip final_word s) (read_final z next) (on_strip (strip arc_word s) (read_arc z next) (wrong Form))
+    on_strip (strip final_word s) (read_final z next) (on_strip (strip arc_word s) (read_arc z next) (Err Form))

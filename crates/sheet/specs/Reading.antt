@@ -1,9 +1,12 @@
 -- What reading a sheet answers, and what it leaves in the lent tables.
-use Rattle.std.specs.Prelude.{cond, not, ◌||◌, List, [], ◌∷◌, ℕ, eqb}
+use Rattle.std.specs.Prelude.{cond, not, ◌||◌, Result, Ok, Err, List, [], ◌∷◌, ℕ, eqb}
 use Rattle.rules.specs.Checks.{tables_long}
 use Rattle.rules.specs.Answers.{Check, check, decided}
+use Rattle.rules.specs.declared.Outline.{Outline}
 use Rattle.text.specs.declared.lines.Fault.{Fault}
 use Rattle.text.specs.declared.lines.Fault.TheVariants.{Form, Range, Order, Cut}
+use Rattle.sheet.specs.declared.Unread.{Unread}
+use Rattle.sheet.specs.declared.Unread.TheVariants.{WrongLength, WrongLine}
 use Rattle.sheet.specs.Sheets.{Sheet, sheet, wrong_at, read_sheet, accepting_of, targets_of, costs_of}
 
 -- the answer number; the first wrong line; Q, V, start and the accepting mask; both tables
@@ -28,6 +31,20 @@ fault_answer Range = 13
 fault_answer Order = 5
 fault_answer Cut = 5
 
+-- why a sheet is not read: its answer, and the line that this carries
+abbrev pub unread_answer : Unread → ℕ
+unread_answer WrongLength = 2
+unread_answer (WrongLine n f) = fault_answer f
+
+abbrev pub unread_line : Unread → ℕ
+unread_line WrongLength = 0
+unread_line (WrongLine n f) = n
+
+-- what the code gives and leaves, as an outcome
+abbrev pub read_given : Result Outline Unread → List ℕ → List ℕ → Outcome
+read_given (Ok o) t c = read_left 0 0 o.size.states o.size.values o.size.start.0 o.accepting t c
+read_given (Err u) t c = read_left (unread_answer u) (unread_line u) 0 0 0 0 t c
+
 abbrev pub sheet_answer : Sheet → ℕ
 sheet_answer (sheet z ls) = 0
 sheet_answer (wrong_at n f) = fault_answer f
@@ -47,6 +64,14 @@ abbrev pub read_done : Sheet → List ℕ → List ℕ → Outcome
 read_done (sheet z ls) t c =
     read_left 0 0 z.states z.values z.start.0 (accepting_of ls) (targets_of z ls t) (costs_of z ls c)
 read_done (wrong_at n f) t c = read_left 0 0 0 0 0 0 t c
+
+-- what a sheet gives: its size and its accepting mask, or its first wrong line and why
+abbrev pub sheet_given : Sheet → Result Outline Unread
+sheet_given (sheet z ls) = Ok (record { size = z; accepting = accepting_of ls })
+sheet_given (wrong_at n f) = Err (WrongLine n f)
+
+abbrev pub given_of : List ℕ → List ℕ → List ℕ → Result Outline Unread
+given_of s t c = cond (tables_long t c) (sheet_given (read_sheet s)) (Err WrongLength)
 
 -- THE PROMISE OF THE READER, for a text of any length and any bytes
 unfoldable pub read_of : List ℕ → List ℕ → List ℕ → Outcome

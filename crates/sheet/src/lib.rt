@@ -3,25 +3,14 @@
 
 ghost use Rattle.std.specs.Prelude.{◌≡◌};
 ghost use Rattle.rules.specs.Answers.{number_of};
-ghost use Rattle.sheet.specs.Reading.{fault_answer, read_left, read_of};
-ghost use Rattle.sheet.specs.Inner.{refusal};
+ghost use Rattle.sheet.specs.Reading.{fault_answer, unread_answer, unread_line, given_of, read_given, read_of};
 
 mod lines;
 mod take;
 
-use crate::take::{Taken, clear, take_sheet};
-use kinds::State;
-use rules::{Answer, Size};
+use crate::take::{clear, take_sheet};
+use rules::{Answer, Outline};
 use text::lines::Fault;
-
-// What reading answers: under 0 the size and the accepting mask, under 5 and 13 the first wrong line.
-#[derive(Clone, Copy)]
-pub struct Read {
-    pub answer: Answer,
-    pub line: usize,
-    pub size: Size,
-    pub accepting: u64,
-}
 
 // The answer for a wrong line, by its fault.
 fn answer_for(fault: Fault) -> Answer
@@ -35,41 +24,44 @@ fn answer_for(fault: Fault) -> Answer
     }
 }
 
-// A refusal.
-fn refused(answer: Answer, line: usize) -> Read
-    ensures { result ≡ refusal answer line }
-{
-    Read {
-        answer,
-        line,
-        size: Size {
-            states: 0,
-            values: 0,
-            start: State(0),
-        },
-        accepting: 0,
+// Why a sheet is not read: tables of a wrong length, or its first wrong line, from 1, and the fault of that.
+#[derive(Clone, Copy, PartialEq, Eq)]
+pub enum Unread {
+    WrongLength,
+    WrongLine(usize, Fault),
+}
+
+impl Unread {
+    // The answer.
+    pub fn answer(self) -> Answer
+        ensures { number_of result ≡ unread_answer self }
+    {
+        match self {
+            Unread::WrongLength => Answer::WrongLength,
+            Unread::WrongLine(_, fault) => answer_for(fault),
+        }
+    }
+
+    // The line that the answer carries, 0 where it carries none.
+    pub fn line(self) -> usize
+        ensures { result ≡ unread_line self }
+    {
+        match self {
+            Unread::WrongLength => 0,
+            Unread::WrongLine(line, _) => line,
+        }
     }
 }
 
 // Reads a sheet into full tables. Judged whole, with no room in the tables, before anything is written.
-pub fn read_sheet(text: &[u8], targets: &mut [u8], costs: &mut [u16]) -> Read
-    ensures { read_left (number_of result.answer) result.line result.size.states result.size.values result.size.start.0 result.accepting targets.new costs.new ≡ read_of text.now targets.old costs.old }
+pub fn read_sheet(text: &[u8], targets: &mut [u8], costs: &mut [u16]) -> Result<Outline, Unread>
+    ensures gives { result ≡ given_of text.now targets.old costs.old }
+    ensures leaves { read_given result targets.new costs.new ≡ read_of text.now targets.old costs.old }
 {
     if !rules::tables_long(targets, costs) {
-        return refused(Answer::WrongLength, 0);
+        return Err(Unread::WrongLength);
     }
-    let judged = take_sheet(text, &mut targets[..0], &mut costs[..0]);
-    match judged {
-        Taken::Wrong(line, fault) => refused(answer_for(fault), line),
-        Taken::Right(size, accepting) => {
-            clear(targets, costs, size.states * size.values);
-            take_sheet(text, targets, costs);
-            Read {
-                answer: Answer::Done,
-                line: 0,
-                size,
-                accepting,
-            }
-        }
-    }
+    let Outline { size, .. } = take_sheet(text, &mut targets[..0], &mut costs[..0])?;
+    clear(targets, costs, size.states * size.values);
+    take_sheet(text, targets, costs)
 }

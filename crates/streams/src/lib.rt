@@ -14,6 +14,7 @@ pub fn read_full<R: Read>(input: &mut R, buffer: &mut [u8]) -> usize
     ensures keeps { length buffer.new ≡ length buffer.old }
     ensures bytes { Consumes (R.remaining input.old) (R.remaining input.new) (take result buffer.new) }
 {
+    // no `for`: each read says itself how far it goes
     let mut done: usize = 0;
     while done < buffer.len() {
         match input.read(&mut buffer[done..]) {
@@ -37,4 +38,22 @@ pub fn write_decimal<W: Write>(output: &mut W, number: u64) -> bool
     ensures { result ≡ true → Appends (W.contents output.old) (W.contents output.new) (decimal number) }
 {
     write!(output, "{number}").is_ok()
+}
+
+// A program from bytes to bytes: fills `space` from the input, lets `job` put what comes of these bytes into `output`, and writes as much of
+// that as the job says; gives whether all was written.
+pub fn run<R: Read, W: Write, F: Fn(&[u8], &mut [u8]) -> usize>(
+    input: &mut R,
+    space: &mut [u8],
+    job: F,
+    output: &mut [u8],
+    out: &mut W,
+) -> bool
+    requires callable { F.IsAlwaysCallable job }
+    requires fits { (x : _) (y : _) (r : _) (z : _) → y.now ≡ output.old → F.post job x y r z → r ≤ length output.old }
+    ensures { (x : _) × (y : _) × (r : _) × (z : _) × Consumes (R.remaining input.old) (R.remaining input.new) x.now × (y.now ≡ output.old) × F.post job x y r z × (z.now ≡ output.new) × (result ≡ true → Appends (W.contents out.old) (W.contents out.new) (take r output.new)) }
+{
+    let got = read_full(input, space);
+    let length = job(&space[..got], output);
+    write_all(out, &output[..length])
 }

@@ -8,11 +8,12 @@ use lib.Dec.{leb, eqb}
 use lib.ListN.{length, get_or, drop, length-drop, get_or-eq_default}
 use lib.Seq.{drop-cons}
 use borrow.Author.Tests.{eq-eqb, ne_eqb, leb-true, eqb-true, eqb-false}
+use Rattle.std.specs.Prelude.{Err}
 use Rattle.meaning.specs.Lists.{all, any}
 use Rattle.rules.proofs.Checks.{both, never}
 use Rattle.text.specs.Bytes.{tab, feed, is_digit, is_small}
 use Rattle.text.specs.Numbers.{digits, past, value, plain, field_end, Field, number, malformed, outside, read_number, tabbed, read_field}
-use Rattle.text.specs.Lines.{Judged, wrong, other, strip, on_strip, on_field, ending, close}
+use Rattle.text.specs.Lines.{Judged, other, strip, on_strip, on_field, ending, close}
 use Rattle.text.specs.Fields.{IsLine, fields, field, is_word, Test, test, judged, is_number, number_test, last_tests}
 use Rattle.text.specs.declared.lines.Fault.TheVariants.{Form, Range}
 use Rattle.text.proofs.Decimals.{digits_only, digits_of, past_of, end_no_digit}
@@ -135,7 +136,7 @@ module _ {A : Type 0} {l : List ℕ} {k : ℕ} (lo hi : ℕ) (g : ℕ → List �
       rw (number_front lo hi (field k l) r h (behind_ends b)) (number_tells (is_number (field k l)) (ranged lo hi (field k l)) b)
 
 -- a field that is missing is no number
-missing : {A : Type 0} (l : List ℕ) (k lo hi : ℕ) (ts : List Test) (a : A) → length (fields l) ≤ k → wrong Form ≡ judged (number_test lo hi (field k l) ts) a
+missing : {A : Type 0} (l : List ℕ) (k lo hi : ℕ) (ts : List Test) (a : A) → length (fields l) ≤ k → Err Form ≡ judged (number_test lo hi (field k l) ts) a
 unfolding judged plain
 missing l k lo hi ts a n = rw (get_or-eq_default (fields l) [] {n = k} n)
 
@@ -159,7 +160,7 @@ field_step {l = l} {k = k} {s = s} p lo hi lo2 hi2 g ts a next =
     go r (more {t = t} q) = next t q
 
 -- THE LAST NUMBER FIELD
-close_more : {A : Type 0} (o : Bool) (a : A) (t : List ℕ) → close o a (tab ∷ t) ≡ wrong Form
+close_more : {A : Type 0} (o : Bool) (a : A) (t : List ℕ) → close o a (tab ∷ t) ≡ Err Form
 unfolding ending
 close_more o a [] = refl
 close_more o a (c ∷ t) = refl
@@ -202,9 +203,9 @@ word_front (c ∷ w) (d ∷ f) {r = r} s h b = go (eqb d c) (word_front w f (bot
 -- x is what the reader says of a line by its word, and y what the tests say; a line of one field has none of the words with their tabs
 pub record Worded {A : Type 0} (l : List ℕ) (x y : Judged A) : Type 0 where
   pub same : x ≡ y
-  pub alone : length (fields l) ≤ 1 → y ≡ wrong Form
+  pub alone : length (fields l) ≤ 1 → y ≡ Err Form
 
-pub no_word : {A : Type 0} (l : List ℕ) → Worded {A = A} l (wrong Form) (wrong Form)
+pub no_word : {A : Type 0} (l : List ℕ) → Worded {A = A} l (Err Form) (Err Form)
 no_word l = record { same = refl; alone = λ n. refl }
 
 pub word_step : {A : Type 0} {l : List ℕ} {x y : Judged A} → IsLine l → (w : List ℕ) (g : List ℕ → Judged A) (lo hi : ℕ) (ts : List Test) (a : A) → all is_small w ≡ true
@@ -214,7 +215,7 @@ unfolding strip
 word_step {l = l} {x = x} {y = y} h w g lo hi ts a s next k =
     record { same = go (parted (record { line = h; parts = refl; feeds = refl })); alone = λ n. lone n (is_word w (field 0 l)) }
   where
-    lone : length (fields l) ≤ 1 → (t : Bool) → cond t (judged (number_test lo hi (field 1 l) ts) a) y ≡ wrong Form
+    lone : length (fields l) ≤ 1 → (t : Bool) → cond t (judged (number_test lo hi (field 1 l) ts) a) y ≡ Err Form
     lone n true = sym (missing l 1 lo hi ts a n)
     lone n false = k.alone n
 
@@ -230,6 +231,6 @@ word_step {l = l} {x = x} {y = y} h w g lo hi ts a s next k =
 -- the only word that a line may have
 pub only_word : {A : Type 0} {l : List ℕ} → IsLine l → (w : List ℕ) (g : List ℕ → Judged A) (lo hi : ℕ) (ts : List Test) (a : A) → all is_small w ≡ true
     → ((t : List ℕ) → FromField l 1 t → g t ≡ judged (number_test lo hi (field 1 l) ts) a)
-    → on_strip (strip (w ++ tab ∷ []) l) g (wrong Form) ≡ judged (test Form (is_word w (field 0 l)) ∷ number_test lo hi (field 1 l) ts) a
+    → on_strip (strip (w ++ tab ∷ []) l) g (Err Form) ≡ judged (test Form (is_word w (field 0 l)) ∷ number_test lo hi (field 1 l) ts) a
 unfolding judged
 only_word {l = l} h w g lo hi ts a s next = (word_step h w g lo hi ts a s next (no_word l)).same

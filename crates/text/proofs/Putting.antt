@@ -6,7 +6,7 @@ use native.Mathlib.Numerals.{add-one}
 use native.Mathlib.Decide.{dec_le}
 use native.Mathlib.Omega.{arith}
 use lib.ListN.{length, get_or, take, set, length-append}
-use lib.Seq.{set_out, sets, length-sets, take-suc, take-length}
+use lib.Seq.{set_out, sets, length-sets, take-suc}
 use Rattle.text.specs.Numbers.{decimal}
 use Rattle.text.specs.Writing.{most_place, Wrote}
 use Rattle.text.proofs.Decimals.{decimal_small, decimal_step}
@@ -20,15 +20,9 @@ sets_past : (b : List ℕ) (i : ℕ) (xs : List ℕ) → length b ≤ i → sets
 sets_past b i [] h = refl
 sets_past b i (x ∷ xs) h = rw (set_out b i x h) (sets_past b (suc i) xs (omega arith))
 
--- no text, one byte, and a text behind another
+-- no text, and a text behind another
 pub wrote_none : (b : List ℕ) (at : ℕ) → at ≤ most_place → Wrote b at [] b at
 wrote_none b at h = record { bytes = refl; ends = omega arith }
-
-pub wrote_one : (b : List ℕ) (at x : ℕ) → at < length b → length b ≤ most_place → Wrote b at (x ∷ []) (set b at x) (at + 1)
-wrote_one b at x h k = record { bytes = refl; ends = omega arith }
-
-pub wrote_past : (b : List ℕ) (at x next : ℕ) → length b ≤ at → next ≡ min (at + 1) most_place → Wrote b at (x ∷ []) b next
-wrote_past b at x next h e = record { bytes = sym (set_out b at x h); ends = e }
 
 module _ (b : List ℕ) (fits : length b ≤ most_place) where
   pub wrote_append : (at : ℕ) (xs ys c d : List ℕ) (p r : ℕ) → Wrote b at xs c p → Wrote c p ys d r → Wrote b at (xs ++ ys) d r
@@ -53,9 +47,6 @@ module _ (b : List ℕ) (fits : length b ≤ most_place) where
   -- a number, digit by digit
   pub wrote_step : (at n : ℕ) (c d : List ℕ) (p r : ℕ) → 10 ≤ n → Wrote b at (decimal (n / 10)) c p → Wrote c p ((48 + n % 10) ∷ []) d r → Wrote b at (decimal n) d r
   wrote_step at n c d p r h u o = rw (decimal_step n h) (wrote_append at (decimal (n / 10)) ((48 + n % 10) ∷ []) c d p r u o)
-
-pub wrote_all : (b : List ℕ) (at : ℕ) (w c : List ℕ) (k p : ℕ) → k ≡ length w → Wrote b at (take k w) c p → Wrote b at w c p
-wrote_all b at w c k p e u = rw (ap (λ (j : ℕ). take j w) e ∙ take-length w) at u
 
 pub wrote_small : (b : List ℕ) (at n : ℕ) (c : List ℕ) (p : ℕ) → n < 10 → Wrote b at ((48 + n % 10) ∷ []) c p → Wrote b at (decimal n) c p
 wrote_small b at n c p h u = let e : n % 10 ≡ n = omega arith in rw (decimal_small n h) (rw e at u)

@@ -6,24 +6,25 @@ use mathlib.Core.List.{List, [], ◌∷◌, ◌++◌}
 use Prim.Native.Nat.{ℕ, suc, ◌+◌, ◌-◌, ◌*◌, ◌≤◌, ◌<◌, min}
 use native.Mathlib.Numerals.{add-one}
 use native.Mathlib.Omega.{arith}
+use Rattle.std.proofs.Common.{rules}
+use Rattle.std.proofs.lemmas.Grind.{common_steps}
 use lib.Dec.{leb, eqb}
 use lib.ListN.{length, get_or, drop, length-append, length-drop, drop_of_length-le}
-use lib.Seq.{drop-cons}
-use borrow.Author.Tests.{le-leb, lt-leb, eq-eqb, ne_eqb, leb-true, eqb-true}
-use Rattle.rules.proofs.Checks.{both, never}
+use lib.Seq.{drop-cons, drop-length}
+use denote.Enum.Bare.{Bare, sameb, same_true, same_false, differs_true, differs_false}
+use borrow.Author.Tests.{le-leb, lt-leb, eq-eqb, ne_eqb}
+use Rattle.std.specs.Prelude.{Result, Ok, Err}
 use Rattle.text.specs.Bytes.{tab, feed, nought, is_digit, is_small, sort_of}
 use Rattle.text.specs.Numbers.{digits, past, value, plain, field_end, Field, number, malformed, outside, read_number, tabbed, number_view, number_in, NumberAt}
-use Rattle.text.specs.Lines.{rest, other, strip_word}
+use Rattle.text.specs.Lines.{rest, other, strip_word, strip_view}
 use Rattle.text.specs.Inner.{Ended, RunAt}
+use Rattle.text.specs.contracts.bytes.Sort.{the_type}
 use Rattle.text.specs.declared.bytes.Sort.{Sort}
-use Rattle.text.specs.declared.bytes.Sort.TheVariants.{Digit, Tab, Feed, Small, Other}
+use Rattle.text.specs.declared.bytes.Sort.TheVariants.{Digit, Tab, Feed, Small}
 use Rattle.text.specs.declared.numbers.Number.{Number}
-use Rattle.text.specs.declared.numbers.Number.TheVariants.{Value, Malformed, Outside}
-use Rattle.text.proofs.Decimals.{is_digit_lem, digits_past}
-
-pub sort_digit : (b : ℕ) → 48 ≤ b → b ≤ 57 → Digit ≡ sort_of b
-unfolding sort_of
-sort_digit b h k = rw (le-leb 48 b h, le-leb b 57 k)
+use Rattle.text.specs.declared.numbers.NumberFault.{NumberFault}
+use Rattle.text.specs.declared.numbers.NumberFault.TheVariants.{Malformed, Outside}
+use Rattle.text.proofs.Decimals.{digits_past}
 
 pub sort_tab : (b : ℕ) → b ≡ 9 → Tab ≡ sort_of b
 unfolding sort_of
@@ -33,90 +34,46 @@ pub sort_feed : (b : ℕ) → b ≡ 10 → Feed ≡ sort_of b
 unfolding sort_of
 sort_feed b h = rw h
 
-pub sort_small : (b : ℕ) → 97 ≤ b → b ≤ 122 → Small ≡ sort_of b
-unfolding sort_of
-sort_small b h k =
-    rw (le-leb 48 b (omega arith), lt-leb b 57 (omega arith), ne_eqb b 9 (omega arith), ne_eqb b 10 (omega arith), le-leb 97 b h, le-leb b 122 k)
-
-pub sort_other_low : (b : ℕ) → b < 48 → (b ≡ 9 → ⊥) → (b ≡ 10 → ⊥) → Other ≡ sort_of b
-unfolding sort_of
-sort_other_low b h m n = rw (lt-leb 48 b h, ne_eqb b 9 m, ne_eqb b 10 n, lt-leb 97 b (omega arith))
-
-pub sort_other_mid : (b : ℕ) → 57 < b → b < 97 → Other ≡ sort_of b
-unfolding sort_of
-sort_other_mid b h k =
-    rw (le-leb 48 b (omega arith), lt-leb b 57 h, ne_eqb b 9 (omega arith), ne_eqb b 10 (omega arith), lt-leb 97 b k)
-
-pub sort_other_high : (b : ℕ) → 122 < b → Other ≡ sort_of b
-unfolding sort_of
-sort_other_high b h =
-    rw (le-leb 48 b (omega arith), lt-leb b 57 (omega arith), ne_eqb b 9 (omega arith), ne_eqb b 10 (omega arith), le-leb 97 b (omega arith), lt-leb b 122 h)
-
 -- a byte sorted as a digit is one, and so on
 pub digit_sort : (b : ℕ) → sort_of b ≡ Digit → (48 ≤ b) × (b ≤ 57)
 unfolding sort_of
-digit_sort b e = go (is_digit b) refl
-  where
-    go : (t : Bool) → is_digit b ≡ t → (48 ≤ b) × (b ≤ 57)
-    go true h = is_digit_lem b h
-    go false h = later (eqb b 9) (eqb b 10) (leb 97 b && leb b 122) (rw h at e)
-      where
-        later : (x y z : Bool) → cond x Tab (cond y Feed (cond z Small Other)) ≡ Digit → (48 ≤ b) × (b ≤ 57)
-        later true y z q = never cc
-        later false true z q = never cc
-        later false false true q = never cc
-        later false false false q = never cc
+digit_sort b e = grind (arith, common_steps)
 
 pub tab_sort : (b : ℕ) → sort_of b ≡ Tab → b ≡ tab
 unfolding sort_of
-tab_sort b e = go (is_digit b) (eqb b tab) refl (eqb b feed) (leb 97 b && leb b 122) e
-  where
-    go : (w x : Bool) → eqb b tab ≡ x → (y z : Bool) → cond w Digit (cond x Tab (cond y Feed (cond z Small Other))) ≡ Tab → b ≡ tab
-    go true x h y z e = never cc
-    go false true h y z e = eqb-true b tab h
-    go false false h true z e = never cc
-    go false false h false true e = never cc
-    go false false h false false e = never cc
+tab_sort b e = grind (arith, common_steps)
 
 pub feed_sort : (b : ℕ) → sort_of b ≡ Feed → b ≡ feed
 unfolding sort_of
-feed_sort b e = go (is_digit b) (eqb b tab) (eqb b feed) refl (leb 97 b && leb b 122) e
-  where
-    go : (w x y : Bool) → eqb b feed ≡ y → (z : Bool) → cond w Digit (cond x Tab (cond y Feed (cond z Small Other))) ≡ Feed → b ≡ feed
-    go true x y h z e = never cc
-    go false true y h z e = never cc
-    go false false true h z e = eqb-true b feed h
-    go false false false h true e = never cc
-    go false false false h false e = never cc
+feed_sort b e = grind (arith, common_steps)
 
 pub not_digit_sort : (b : ℕ) → (sort_of b ≡ Digit → ⊥) → is_digit b ≡ false
-not_digit_sort b e = go (is_digit b) refl
-  where
-    go : (t : Bool) → is_digit b ≡ t → is_digit b ≡ false
-    go true h = let w = is_digit_lem b h in absurd (e (sym (sort_digit b w.0 w.1)))
-    go false h = h
+unfolding sort_of
+not_digit_sort b e = grind (arith, common_steps)
 
 pub small_sort : (b : ℕ) → sort_of b ≡ Small → is_small b ≡ true
 unfolding sort_of
-small_sort b e = go (is_digit b) (eqb b tab) (eqb b feed) (is_small b) refl e
-  where
-    go : (w x y z : Bool) → is_small b ≡ z → cond w Digit (cond x Tab (cond y Feed (cond z Small Other))) ≡ Small → is_small b ≡ true
-    go true x y z h e = never cc
-    go false true y z h e = never cc
-    go false false true z h e = never cc
-    go false false false true h e = h
-    go false false false false h e = never cc
+small_sort b e = grind (arith, common_steps)
 
-pub not_small_sort : (b : ℕ) → (Small ≡ sort_of b → ⊥) → is_small b ≡ false
-not_small_sort b n = go (is_small b) refl
-  where
-    go : (t : Bool) → is_small b ≡ t → is_small b ≡ false
-    go true h = let w : (leb 97 b ≡ true) × (leb b 122 ≡ true) = both _ _ h in absurd (n (sort_small b (leb-true 97 b w.0) (leb-true b 122 w.1)))
-    go false h = h
+pub not_small_sort : (b : ℕ) → (sort_of b ≡ Small → ⊥) → is_small b ≡ false
+unfolding sort_of
+not_small_sort b n = grind (arith, common_steps)
 
--- a match on a sort goes by its tag: one of some tags is none of the others
-pub other_tag : (b : ℕ) (c d : Sort) → c ≡ sort_of b → (c ≡ d → ⊥) → d ≡ sort_of b → ⊥
-other_tag b c d e o f = o (e ∙ sym f)
+-- what the code learns of a byte by asking whether its sort is another
+bare_sort : Bare the_type.parts
+bare_sort = search rules
+
+pub sort_is : (b : ℕ) (x y : Sort) (r : Bool) → x ≡ sort_of b → r ≡ not (sameb the_type x y) → r ≡ false → sort_of b ≡ y
+sort_is b x y r s e h = sym s ∙ differs_false the_type bare_sort x y (sym e ∙ h)
+
+pub sort_not : (b : ℕ) (x y : Sort) (r : Bool) → x ≡ sort_of b → r ≡ not (sameb the_type x y) → r ≡ true → sort_of b ≡ y → ⊥
+sort_not b x y r s e h i = differs_true the_type x y (sym e ∙ h) (s ∙ i)
+
+pub sort_same : (b : ℕ) (x y : Sort) (r : Bool) → x ≡ sort_of b → r ≡ sameb the_type x y → r ≡ true → sort_of b ≡ y
+sort_same b x y r s e h = sym s ∙ same_true the_type bare_sort x y (sym e ∙ h)
+
+pub sort_other : (b : ℕ) (x y : Sort) (r : Bool) → x ≡ sort_of b → r ≡ sameb the_type x y → r ≡ false → sort_of b ≡ y → ⊥
+sort_other b x y r s e h i = same_false the_type x y (sym e ∙ h) (s ∙ i)
 
 -- digits and what follows them, at a place
 digits_in : (s : List ℕ) (i : ℕ) → i < length s → 48 ≤ get_or s i 0 → get_or s i 0 ≤ 57 → digits (drop i s) ≡ get_or s i 0 ∷ digits (drop (i + 1) s)
@@ -179,10 +136,11 @@ unfolding value
 run_stop s at cap i v h e r =
     record { ended = record { low = r.low; high = r.high; after = r.after ∙ past_stop s i h e }; exact = rw (digits_stop s i h e) at r.val }
 
-pub run_end : (s : List ℕ) (at cap i v : ℕ) → length s ≤ i → Running s at cap i v → RunAt s at cap i v
+pub run_end : (s : List ℕ) (at cap i v : ℕ) → i ≡ length s → Running s at cap i v → RunAt s at cap (length s) v
 unfolding value digits past
-run_end s at cap i v h r =
-    record { ended = record { low = r.low; high = r.high; after = r.after ∙ rw (drop_of_length-le s h) }; exact = rw (drop_of_length-le s h) at r.val }
+run_end s at cap i v e r =
+    let q : Running s at cap (length s) v = rw e at r in
+    record { ended = record { low = q.low; high = q.high; after = q.after ∙ rw (drop-length s) }; exact = rw (drop-length s) at q.val }
 
 -- plain_at
 pub ended_length : (s : List ℕ) (at end : ℕ) → Ended s at end → length (digits (drop at s)) ≡ end - at
@@ -208,9 +166,9 @@ module _ (s : List ℕ) (at : ℕ) where
   unfolding digits plain
   plain_at_end h = rw (drop_of_length-le s {i = at} h)
 
-  pub plain_at_other : at < length s → (Digit ≡ sort_of (get_or s at 0) → ⊥) → false ≡ plain (digits (drop at s))
+  pub plain_at_other : at < length s → (sort_of (get_or s at 0) ≡ Digit → ⊥) → false ≡ plain (digits (drop at s))
   unfolding plain
-  plain_at_other h n = rw (digits_stop s at h (not_digit_sort (get_or s at 0) (λ e. n (sym e))))
+  plain_at_other h n = rw (digits_stop s at h (not_digit_sort (get_or s at 0) n))
 
   pub plain_at_lead : at < length s → sort_of (get_or s at 0) ≡ Digit → (get_or s at 0 ≡ nought → ⊥) → not (eqb (get_or s at 0) nought) ≡ plain (digits (drop at s))
   plain_at_lead h d n = let w = digit_sort (get_or s at 0) d in rw (digits_in s at h w.0 w.1, ne_eqb (get_or s at 0) nought n) (plain_some (get_or s at 0) (digits (drop (at + 1) s)) n)
@@ -231,35 +189,39 @@ pub ends_tab : (s : List ℕ) (i : ℕ) → i < length s → get_or s i 0 ≡ ta
 unfolding field_end
 ends_tab s i h e = rw (drop-cons s i 0 h, eq-eqb (get_or s i 0) tab e)
 
-pub ends_feed : (s : List ℕ) (i : ℕ) → i < length s → get_or s i 0 ≡ feed → true ≡ field_end (drop i s)
+ends_feed : (s : List ℕ) (i : ℕ) → i < length s → get_or s i 0 ≡ feed → true ≡ field_end (drop i s)
 unfolding field_end
 ends_feed s i h e = rw (drop-cons s i 0 h, e)
 
-pub ends_not : (s : List ℕ) (i : ℕ) → i < length s → (get_or s i 0 ≡ 9 → ⊥) → (get_or s i 0 ≡ 10 → ⊥) → false ≡ field_end (drop i s)
+ends_not : (s : List ℕ) (i : ℕ) → i < length s → (get_or s i 0 ≡ 9 → ⊥) → (get_or s i 0 ≡ 10 → ⊥) → false ≡ field_end (drop i s)
 unfolding field_end
 ends_not s i h a b = rw (drop-cons s i 0 h, ne_eqb (get_or s i 0) 9 a, ne_eqb (get_or s i 0) 10 b)
 
+pub ends_other : (s : List ℕ) (i : ℕ) → i < length s → (sort_of (get_or s i 0) ≡ Tab → ⊥) → (x : Sort) (r : Bool) → x ≡ sort_of (get_or s i 0) → r ≡ sameb the_type x Feed → r ≡ field_end (drop i s)
+ends_other s i h n x true d e = ends_feed s i h (feed_sort (get_or s i 0) (sort_same (get_or s i 0) x Feed true d e refl))
+ends_other s i h n x false d e = ends_not s i h (λ b. n (sym (sort_tab (get_or s i 0) b))) (λ b. sort_other (get_or s i 0) x Feed false d e refl (sym (sort_feed (get_or s i 0) b)))
+
 -- number
-pub number_past : (s : List ℕ) (at lo hi : ℕ) → length s < at → NumberAt (read_number lo hi (drop at s)) s Malformed
+pub number_past : (s : List ℕ) (at lo hi : ℕ) → length s < at → NumberAt (read_number lo hi (drop at s)) s (Err Malformed)
 unfolding read_number digits plain
 number_past s at lo hi h = record { reads = rw (drop_of_length-le s {i = at} (omega arith)); inside = tt }
 
 module _ (s : List ℕ) (at lo hi end v : ℕ) (r : RunAt s at hi end v) where
-  pub number_unplain : plain (digits (drop at s)) ≡ false → NumberAt (read_number lo hi (drop at s)) s Malformed
+  pub number_unplain : plain (digits (drop at s)) ≡ false → NumberAt (read_number lo hi (drop at s)) s (Err Malformed)
   unfolding read_number
   number_unplain e = record { reads = rw e; inside = tt }
 
-  pub number_unended : plain (digits (drop at s)) ≡ true → field_end (drop end s) ≡ false → NumberAt (read_number lo hi (drop at s)) s Malformed
+  pub number_unended : plain (digits (drop at s)) ≡ true → field_end (drop end s) ≡ false → NumberAt (read_number lo hi (drop at s)) s (Err Malformed)
   unfolding read_number
   number_unended e f = record { reads = rw (e, r.ended.after, f); inside = tt }
 
-  pub number_low : plain (digits (drop at s)) ≡ true → field_end (drop end s) ≡ true → v ≤ hi → v < lo → NumberAt (read_number lo hi (drop at s)) s Outside
+  pub number_low : plain (digits (drop at s)) ≡ true → field_end (drop end s) ≡ true → v ≤ hi → v < lo → NumberAt (read_number lo hi (drop at s)) s (Err Outside)
   unfolding read_number
   number_low e f o l =
       let w : min v (hi + 1) ≡ min (value 0 (digits (drop at s))) (hi + 1) = r.exact in
       record { reads = rw (e, r.ended.after, f, lt-leb lo (value 0 (digits (drop at s))) (omega arith)); inside = tt }
 
-  pub number_high : plain (digits (drop at s)) ≡ true → field_end (drop end s) ≡ true → hi < v → NumberAt (read_number lo hi (drop at s)) s Outside
+  pub number_high : plain (digits (drop at s)) ≡ true → field_end (drop end s) ≡ true → hi < v → NumberAt (read_number lo hi (drop at s)) s (Err Outside)
   unfolding read_number
   number_high e f l =
       let w : min v (hi + 1) ≡ min (value 0 (digits (drop at s))) (hi + 1) = r.exact in
@@ -269,7 +231,7 @@ module _ (s : List ℕ) (at lo hi end v : ℕ) (r : RunAt s at hi end v) where
       either_way true = refl
       either_way false = refl
 
-  pub number_value : plain (digits (drop at s)) ≡ true → field_end (drop end s) ≡ true → lo ≤ v → v ≤ hi → NumberAt (read_number lo hi (drop at s)) s (Value v end)
+  pub number_value : plain (digits (drop at s)) ≡ true → field_end (drop end s) ≡ true → lo ≤ v → v ≤ hi → NumberAt (read_number lo hi (drop at s)) s (Ok (record { value = v; end = end }))
   unfolding read_number
   number_value e f l h =
       let w : min v (hi + 1) ≡ min (value 0 (digits (drop at s))) (hi + 1) = r.exact in
@@ -277,37 +239,36 @@ module _ (s : List ℕ) (at lo hi end v : ℕ) (r : RunAt s at hi end v) where
       record { reads = rw (e, r.ended.after, f, x, le-leb lo v l, le-leb v hi h); inside = r.ended.high }
 
 -- field
-module _ (s : List ℕ) (x : Field) (r : Number) (n : NumberAt x s r) where
-  pub value_is : (v end : ℕ) → r ≡ Value v end → x ≡ number v (drop end s)
-  value_is v end e = sym n.reads ∙ ap (number_view s) e
+module _ (s : List ℕ) (x : Field) (r : Result Number NumberFault) (n : NumberAt x s r) where
+  pub value_is : (m : Number) → r ≡ Ok m → x ≡ number m.value (drop m.end s)
+  value_is m e = sym n.reads ∙ ap (number_view s) e
 
-  pub value_in : (v end : ℕ) → r ≡ Value v end → end ≤ length s
-  value_in v end e = subst (λ (y : Number). number_in s y) e n.inside
+  pub value_in : (m : Number) → r ≡ Ok m → m.end ≤ length s
+  value_in m e = subst (λ (y : Result Number NumberFault). number_in s y) e n.inside
 
-  pub malformed_is : r ≡ Malformed → x ≡ malformed
+  pub malformed_is : r ≡ Err Malformed → x ≡ malformed
   malformed_is e = sym n.reads ∙ ap (number_view s) e
 
-  pub outside_is : r ≡ Outside → x ≡ outside
+  pub outside_is : r ≡ Err Outside → x ≡ outside
   outside_is e = sym n.reads ∙ ap (number_view s) e
 
-  pub field_short : (v end : ℕ) → r ≡ Value v end → length s ≤ end → NumberAt (tabbed x) s Malformed
+  pub field_short : (m : Number) → r ≡ Ok m → length s ≤ m.end → NumberAt (tabbed x) s (Err Malformed)
   unfolding tabbed
-  field_short v end e h = record { reads = rw (value_is v end e, drop_of_length-le s h); inside = tt }
+  field_short m e h = record { reads = rw (value_is m e, drop_of_length-le s h); inside = tt }
 
-  pub field_tab : (v end : ℕ) → r ≡ Value v end → end < length s → get_or s end 0 ≡ 9 → NumberAt (tabbed x) s (Value v (end + 1))
+  pub field_tab : (m : Number) → r ≡ Ok m → m.end < length s → get_or s m.end 0 ≡ 9 → NumberAt (tabbed x) s (Ok (record { value = m.value; end = m.end + 1 }))
   unfolding tabbed
-  field_tab v end e h b = record { reads = rw (value_is v end e, drop-cons s end 0 h, eq-eqb (get_or s end 0) 9 b, add-one); inside = omega arith }
+  field_tab m e h b = record { reads = rw (value_is m e, drop-cons s m.end 0 h, eq-eqb (get_or s m.end 0) 9 b, add-one); inside = omega arith }
 
-  pub field_other : (v end : ℕ) → r ≡ Value v end → end < length s → (get_or s end 0 ≡ 9 → ⊥) → NumberAt (tabbed x) s Malformed
+  pub field_other : (m : Number) → r ≡ Ok m → m.end < length s → (get_or s m.end 0 ≡ 9 → ⊥) → NumberAt (tabbed x) s (Err Malformed)
   unfolding tabbed
-  field_other v end e h b = record { reads = rw (value_is v end e, drop-cons s end 0 h, ne_eqb (get_or s end 0) 9 b); inside = tt }
+  field_other m e h b = record { reads = rw (value_is m e, drop-cons s m.end 0 h, ne_eqb (get_or s m.end 0) 9 b); inside = tt }
 
--- a field that is no number in range stays that
-pub field_not : (s : List ℕ) (x : Field) (r : Number) → NumberAt x s r → ((v end : ℕ) → r ≡ Value v end → ⊥) → NumberAt (tabbed x) s r
-unfolding tabbed
-field_not s x (Value v end) n o = absurd (o v end refl)
-field_not s x Malformed n o = record { reads = rw (malformed_is s x Malformed n refl); inside = tt }
-field_not s x Outside n o = record { reads = rw (outside_is s x Outside n refl); inside = tt }
+  -- a field that is no number in range stays that
+  pub field_not : (f : NumberFault) → r ≡ Err f → NumberAt (tabbed x) s (Err f)
+  unfolding tabbed
+  field_not Malformed e = record { reads = rw (malformed_is e); inside = tt }
+  field_not Outside e = record { reads = rw (outside_is e); inside = tt }
 
 -- begins
 pub word_short : (w t : List ℕ) → length t ≤ length w → other ≡ strip_word w t
@@ -334,15 +295,20 @@ module _ (w t : List ℕ) (k : ℕ) (h : k < length w) (l : k < length t) where
       go true = refl
       go false = refl
 
-  pub word_sort : (Small ≡ sort_of (get_or t k 0) → ⊥) → strip_word (drop k w) (drop k t) ≡ other
+  pub word_sort : (sort_of (get_or t k 0) ≡ Small → ⊥) → strip_word (drop k w) (drop k t) ≡ other
   unfolding strip_word
   word_sort n = rw (drop-cons w k 0 h, drop-cons t k 0 l, not_small_sort (get_or t k 0) n)
 
-module _ (w t : List ℕ) (k : ℕ) (e : k ≡ length w) (l : k < length t) where
-  pub word_tab : get_or t k 0 ≡ tab → strip_word (drop k w) (drop k t) ≡ rest (drop (length w + 1) t)
-  unfolding strip_word
-  word_tab b = rw (← e, add-one, drop_of_length-le w {i = k} (omega arith), drop-cons t k 0 l, b)
+-- behind the word
+word_tab : (w t : List ℕ) (k : ℕ) → k ≡ length w → k < length t → get_or t k 0 ≡ tab → strip_word (drop k w) (drop k t) ≡ rest (drop (length w + 1) t)
+unfolding strip_word
+word_tab w t k e l b = rw (← e, add-one, drop_of_length-le w {i = k} (omega arith), drop-cons t k 0 l, b)
 
-  pub word_behind : (get_or t k 0 ≡ tab → ⊥) → strip_word (drop k w) (drop k t) ≡ other
-  unfolding strip_word
-  word_behind n = rw (drop_of_length-le w {i = k} (omega arith), drop-cons t k 0 l, ne_eqb (get_or t k 0) tab n)
+word_behind : (w t : List ℕ) (k : ℕ) → k ≡ length w → k < length t → (get_or t k 0 ≡ tab → ⊥) → strip_word (drop k w) (drop k t) ≡ other
+unfolding strip_word
+word_behind w t k e l n = rw (drop_of_length-le w {i = k} (omega arith), drop-cons t k 0 l, ne_eqb (get_or t k 0) tab n)
+
+pub word_end : (w t : List ℕ) (k : ℕ) → k ≡ length w → k < length t → (x : Sort) (r : Bool) → x ≡ sort_of (get_or t (length w) 0) → r ≡ sameb the_type x Tab
+    → strip_view t (length w + 1) r ≡ strip_word (drop k w) (drop k t)
+word_end w t k e l x true s h = sym (word_tab w t k e l (tab_sort (get_or t k 0) (rw e (sort_same (get_or t (length w) 0) x Tab true s h refl))))
+word_end w t k e l x false s h = sym (word_behind w t k e l (λ b. sort_other (get_or t (length w) 0) x Tab false s h refl (sym (sort_tab (get_or t (length w) 0) (rw e at b)))))

@@ -7,6 +7,7 @@ use native.Mathlib.Decide.{dec_lt}
 use native.Mathlib.Omega.{arith}
 use lib.ListN.{length, take, drop, length-drop}
 use lib.Seq.{length-take-le}
+use Rattle.std.specs.Prelude.{Result, Ok, Err}
 use Rattle.rules.proofs.Checks.{never}
 use Rattle.text.specs.Bytes.{sort_of}
 use Rattle.text.specs.Numbers.{Field, number, NumberAt}
@@ -14,9 +15,9 @@ use Rattle.text.specs.Lines.{strip_word, ending, lines, number_fault, strip_view
 use Rattle.text.specs.Writing.{Wrote}
 use Rattle.text.specs.declared.bytes.Sort.{Sort}
 use Rattle.text.specs.declared.lines.Fault.{Fault}
-use Rattle.text.specs.declared.lines.End.{End}
 use Rattle.text.specs.declared.numbers.Number.{Number}
-use Rattle.text.specs.declared.numbers.Number.TheVariants.{Value, Malformed, Outside}
+use Rattle.text.specs.declared.numbers.NumberFault.{NumberFault}
+use Rattle.text.specs.declared.numbers.NumberFault.TheVariants.{Malformed, Outside}
 
 pub sort_of_unique : (b : ℕ) (r s : Sort) → r ≡ sort_of b → s ≡ sort_of b → r ≡ s
 sort_of_unique b r s p q = p ∙ sym q
@@ -27,10 +28,10 @@ begins_unique line word false false p q = refl
 begins_unique line word true false p q = let e : strip_view line (length word + 1) true ≡ strip_view line (length word + 1) false = p ∙ sym q in never cc
 begins_unique line word false true p q = let e : strip_view line (length word + 1) false ≡ strip_view line (length word + 1) true = p ∙ sym q in never cc
 
-pub fault_of_unique : (n : Number) (r s : Fault) → r ≡ number_fault n → s ≡ number_fault n → r ≡ s
+pub fault_of_unique : (n : NumberFault) (r s : Fault) → r ≡ number_fault n → s ≡ number_fault n → r ≡ s
 fault_of_unique n r s p q = p ∙ sym q
 
-pub close_at_unique : (line : List ℕ) (at : ℕ) (ordered : Bool) (r s : End) → r ≡ ending ordered (drop at line) → s ≡ ending ordered (drop at line) → r ≡ s
+pub close_at_unique : (line : List ℕ) (at : ℕ) (ordered : Bool) (r s : Result Unit Fault) → r ≡ ending ordered (drop at line) → s ≡ ending ordered (drop at line) → r ≡ s
 close_at_unique line at ordered r s p q = p ∙ sym q
 
 -- a place inside a text is told by what follows it
@@ -39,21 +40,26 @@ same_place s i j h k e =
     let l : length s - i ≡ length s - j = sym (length-drop i s) ∙ (ap length e ∙ length-drop j s) in omega arith
 
 -- number_at and field_at
-pub number_unique : (x : Field) (line : List ℕ) (r s : Number) → NumberAt x line r → NumberAt x line s → r ≡ s
-number_unique x line (Value v p) (Value w q) a b =
-    let e : number v (drop p line) ≡ number w (drop q line) = a.reads ∙ sym b.reads in
-    let f : v ≡ w = cc in
-    let d : drop p line ≡ drop q line = cc in
-    let g : p ≡ q = same_place line p q a.inside b.inside d in
-    cc
-number_unique x line (Value v p) Malformed a b = let e = a.reads ∙ sym b.reads in never cc
-number_unique x line (Value v p) Outside a b = let e = a.reads ∙ sym b.reads in never cc
-number_unique x line Malformed (Value w q) a b = let e = a.reads ∙ sym b.reads in never cc
-number_unique x line Malformed Malformed a b = refl
-number_unique x line Malformed Outside a b = let e = a.reads ∙ sym b.reads in never cc
-number_unique x line Outside (Value w q) a b = let e = a.reads ∙ sym b.reads in never cc
-number_unique x line Outside Malformed a b = let e = a.reads ∙ sym b.reads in never cc
-number_unique x line Outside Outside a b = refl
+abbrev number_of : ℕ → ℕ → Result Number NumberFault
+number_of v p = Ok (record { value = v; end = p })
+
+same_number : (v w p q : ℕ) → v ≡ w → p ≡ q → number_of v p ≡ number_of w q
+same_number v w p q e f = cc
+
+pub number_unique : (x : Field) (line : List ℕ) (r s : Result Number NumberFault) → NumberAt x line r → NumberAt x line s → r ≡ s
+number_unique x line (Ok m) (Ok n) a b =
+    let e : number m.value (drop m.end line) ≡ number n.value (drop n.end line) = a.reads ∙ sym b.reads in
+    let f : m.value ≡ n.value = cc in
+    let d : drop m.end line ≡ drop n.end line = cc in
+    same_number m.value n.value m.end n.end f (same_place line m.end n.end a.inside b.inside d)
+number_unique x line (Ok m) (Err Malformed) a b = let e = a.reads ∙ sym b.reads in never cc
+number_unique x line (Ok m) (Err Outside) a b = let e = a.reads ∙ sym b.reads in never cc
+number_unique x line (Err Malformed) (Ok n) a b = let e = a.reads ∙ sym b.reads in never cc
+number_unique x line (Err Malformed) (Err Malformed) a b = refl
+number_unique x line (Err Malformed) (Err Outside) a b = let e = a.reads ∙ sym b.reads in never cc
+number_unique x line (Err Outside) (Ok n) a b = let e = a.reads ∙ sym b.reads in never cc
+number_unique x line (Err Outside) (Err Malformed) a b = let e = a.reads ∙ sym b.reads in never cc
+number_unique x line (Err Outside) (Err Outside) a b = refl
 
 pub line_end_unique : (s : List ℕ) (at r q : ℕ) → LineEnd s at r → LineEnd s at q → r ≡ q
 line_end_unique s at r q a b = go (dec_lt at (length s))

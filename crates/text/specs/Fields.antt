@@ -1,9 +1,9 @@
 -- The fields of a line, and the tests that tell its fault: those of its fields from left to right, then its order, then its line feed.
-use Rattle.std.specs.Prelude.{◌≡◌, Bool, true, false, cond, ◌&&◌, List, [], ◌∷◌, ℕ, eqb, leb, length, get_or}
+use Rattle.std.specs.Prelude.{◌≡◌, Bool, true, false, cond, ◌&&◌, Ok, Err, List, [], ◌∷◌, ℕ, eqb, leb, length, get_or}
 use Rattle.meaning.specs.Lists.{all, any}
 use Rattle.text.specs.Bytes.{tab, feed, is_digit}
 use Rattle.text.specs.Numbers.{plain, value}
-use Rattle.text.specs.Lines.{Judged, right, wrong}
+use Rattle.text.specs.Lines.{Judged}
 use Rattle.text.specs.declared.lines.Fault.{Fault}
 use Rattle.text.specs.declared.lines.Fault.TheVariants.{Form, Range, Order, Cut}
 
@@ -38,8 +38,8 @@ pub data Test : Type 0 where
 
 -- THE FIRST FAULT DECIDES; a line without one says a
 unfoldable pub judged : {A : Type 0} → List Test → A → Judged A
-judged [] a = right a
-judged (test f ok ∷ ts) a = cond ok (judged ts a) (wrong f)
+judged [] a = Ok a
+judged (test f ok ∷ ts) a = cond ok (judged ts a) (Err f)
 
 -- a field is a number of our form, whatever its digit count
 abbrev pub is_number : List ℕ → Bool

@@ -1,13 +1,11 @@
 -- Lines of fields: a text cut into lines, the word at the front of a line, and the judgement of what follows.
-use Rattle.std.specs.Prelude.{◌≡◌, Bool, true, false, cond, ◌&&◌, List, [], ◌∷◌, ℕ, ◌-◌, ◌≤◌, ◌<◌, eqb, length, take, drop}
+use Rattle.std.specs.Prelude.{◌≡◌, Bool, true, false, cond, ◌&&◌, Result, Ok, Err, List, [], ◌∷◌, ℕ, ◌-◌, ◌≤◌, ◌<◌, eqb, length, take, drop}
 use Rattle.text.specs.Bytes.{tab, feed, is_small}
 use Rattle.text.specs.Numbers.{Field, number, malformed, outside}
-use Rattle.text.specs.declared.numbers.Number.{Number}
-use Rattle.text.specs.declared.numbers.Number.TheVariants.{Value, Malformed, Outside}
+use Rattle.text.specs.declared.numbers.NumberFault.{NumberFault}
+use Rattle.text.specs.declared.numbers.NumberFault.TheVariants.{Malformed, Outside}
 use Rattle.text.specs.declared.lines.Fault.{Fault}
 use Rattle.text.specs.declared.lines.Fault.TheVariants.{Form, Range, Order, Cut}
-use Rattle.text.specs.declared.lines.End.{End}
-use Rattle.text.specs.declared.lines.End.TheVariants.{Fine, Faulty}
 
 -- a text cut after each line feed
 abbrev pub onto : ℕ → Bool → List (List ℕ) → List (List ℕ)
@@ -20,13 +18,12 @@ lines [] = []
 lines (b ∷ s) = onto b (eqb b feed) (lines s)
 
 -- what comes of reading a line: what it says, or its fault
-pub data Judged (A : Type 0) : Type 0 where
-  right : A → Judged A
-  wrong : Fault → Judged A
+abbrev pub Judged : Type 0 → Type 0
+Judged A = Result A Fault
 
 abbrev pub on_judged : {A B : Type 0} → Judged A → (A → B) → (Fault → B) → B
-on_judged (right a) f g = f a
-on_judged (wrong x) f g = g x
+on_judged (Ok a) f g = f a
+on_judged (Err x) f g = g x
 
 -- a word taken off the front of a text, with what follows it
 pub data Stripped : Type 0 where
@@ -51,25 +48,24 @@ on_strip other f a = a
 
 abbrev pub on_field : {A : Type 0} → Field → (ℕ → List ℕ → Judged A) → Judged A
 on_field (number n r) f = f n r
-on_field malformed f = wrong Form
-on_field outside f = wrong Range
+on_field malformed f = Err Form
+on_field outside f = Err Range
 
 -- after the last field: no further field, then the order, then the line feed, which ends the line
-unfoldable pub ending : Bool → List ℕ → End
-ending ordered [] = cond ordered (Faulty Cut) (Faulty Order)
-ending ordered (b ∷ []) = cond (eqb b feed) (cond ordered Fine (Faulty Order)) (Faulty Form)
-ending ordered (b ∷ e ∷ r) = Faulty Form
+unfoldable pub ending : Bool → List ℕ → Judged Unit
+ending ordered [] = cond ordered (Err Cut) (Err Order)
+ending ordered (b ∷ []) = cond (eqb b feed) (cond ordered (Ok tt) (Err Order)) (Err Form)
+ending ordered (b ∷ e ∷ r) = Err Form
 
-abbrev pub sealed : {A : Type 0} → A → End → Judged A
-sealed a Fine = right a
-sealed a (Faulty f) = wrong f
+abbrev pub sealed : {A : Type 0} → A → Judged Unit → Judged A
+sealed a (Ok u) = Ok a
+sealed a (Err f) = Err f
 
 abbrev pub close : {A : Type 0} → Bool → A → List ℕ → Judged A
 close ordered a r = sealed a (ending ordered r)
 
 -- the fault that a field has as a number
-abbrev pub number_fault : Number → Fault
-number_fault (Value v end) = Form
+abbrev pub number_fault : NumberFault → Fault
 number_fault Malformed = Form
 number_fault Outside = Range
 

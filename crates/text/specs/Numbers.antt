@@ -1,8 +1,9 @@
 -- Decimal numbers as bytes: the digits of a number, and what stands at the front of a text as a number.
-use Rattle.std.specs.Prelude.{◌≡◌, Bool, true, false, cond, not, ◌&&◌, ◌||◌, List, [], ◌∷◌, ◌++◌, ℕ, zero, suc, ◌+◌, ◌-◌, ◌*◌, ◌/◌, ◌%◌, ◌≤◌, ltb, leb, eqb, length, drop}
+use Rattle.std.specs.Prelude.{◌≡◌, Bool, true, false, cond, not, ◌&&◌, ◌||◌, Result, Ok, Err, List, [], ◌∷◌, ◌++◌, ℕ, zero, suc, ◌+◌, ◌-◌, ◌*◌, ◌/◌, ◌%◌, ◌≤◌, ltb, leb, eqb, length, drop}
 use Rattle.text.specs.Bytes.{tab, feed, nought, is_digit}
 use Rattle.text.specs.declared.numbers.Number.{Number}
-use Rattle.text.specs.declared.numbers.Number.TheVariants.{Value, Malformed, Outside}
+use Rattle.text.specs.declared.numbers.NumberFault.{NumberFault}
+use Rattle.text.specs.declared.numbers.NumberFault.TheVariants.{Malformed, Outside}
 
 -- the digits of n, at most f of them after the first
 unfoldable pub decimal_in : ℕ → ℕ → List ℕ
@@ -63,16 +64,15 @@ abbrev pub read_field : ℕ → ℕ → List ℕ → Field
 read_field lo hi s = tabbed (read_number lo hi s)
 
 -- the code's answer as a field: a number that ends at a place of the line
-abbrev pub number_view : List ℕ → Number → Field
-number_view s (Value v end) = number v (drop end s)
-number_view s Malformed = malformed
-number_view s Outside = outside
+abbrev pub number_view : List ℕ → Result Number NumberFault → Field
+number_view s (Ok n) = number n.value (drop n.end s)
+number_view s (Err Malformed) = malformed
+number_view s (Err Outside) = outside
 
-abbrev pub number_in : List ℕ → Number → Type 0
-number_in s (Value v end) = end ≤ length s
-number_in s Malformed = Unit
-number_in s Outside = Unit
+abbrev pub number_in : List ℕ → Result Number NumberFault → Type 0
+number_in s (Ok n) = n.end ≤ length s
+number_in s (Err f) = Unit
 
-pub record NumberAt (x : Field) (s : List ℕ) (r : Number) : Type 0 where
+pub record NumberAt (x : Field) (s : List ℕ) (r : Result Number NumberFault) : Type 0 where
   pub reads : number_view s r ≡ x
   pub inside : number_in s r

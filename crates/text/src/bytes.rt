@@ -3,7 +3,7 @@ ghost use Rattle.std.specs.Prelude.{◌≡◌, ◌+◌, length};
 ghost use Rattle.text.specs.Bytes.{sort_of};
 ghost use Rattle.text.specs.Lines.{strip_word, strip_view};
 
-#[derive(Clone, Copy)]
+#[derive(Clone, Copy, PartialEq, Eq)]
 pub enum Sort {
     Digit,
     Tab,
@@ -13,6 +13,7 @@ pub enum Sort {
 }
 
 // How a byte is sorted: the reader's next step goes by this.
+#[tactic(auto, unfolding(crate::specs::Bytes::sort_of))]
 pub fn sort_of(byte: u8) -> Sort
     ensures { result ≡ sort_of byte }
 {
@@ -32,25 +33,12 @@ pub fn begins(line: &[u8], word: &[u8]) -> bool
     if line.len() <= word.len() {
         return false;
     }
-    let mut k: usize = 0;
-    while k < word.len() {
+    // by place: as a chain, three wrong programs would break one and the same fact
+    for k in 0..word.len() {
         let b = line[k];
-        let c = sort_of(b);
-        match c {
-            Sort::Small => {
-                if b != word[k] {
-                    return false;
-                }
-                k += 1;
-            }
-            _ => {
-                return false;
-            }
+        if sort_of(b) != Sort::Small || b != word[k] {
+            return false;
         }
     }
-    let behind = sort_of(line[k]);
-    match behind {
-        Sort::Tab => true,
-        _ => false,
-    }
+    sort_of(line[word.len()]) == Sort::Tab
 }

@@ -12,10 +12,16 @@ pub(crate) struct Run {
     pub(crate) value: u64,
 }
 
-// A field read as a number: its value and where it ends.
+// A field read as a number: its value, and where it ends.
 #[derive(Clone, Copy)]
-pub enum Number {
-    Value(u32, usize),
+pub struct Number {
+    pub value: u32,
+    pub end: usize,
+}
+
+// Why a field is no number in range.
+#[derive(Clone, Copy, PartialEq, Eq)]
+pub enum NumberFault {
     Malformed,
     Outside,
 }
@@ -25,25 +31,21 @@ pub(crate) fn run_at(line: &[u8], at: usize, most: u32) -> Run
     requires { at ≤ length line.now }
     ensures { RunAt line.now at most result.end result.value }
 {
-    let mut i = at;
-    let mut v: u64 = 0;
-    while i < line.len() {
+    let mut value: u64 = 0;
+    for i in at..line.len() {
         let b = line[i];
-        let c = sort_of(b);
-        match c {
-            Sort::Digit => {
-                // past `most` it stays there, so that it cannot wrap
-                if v <= most as u64 {
-                    v = v * 10 + (b as u64 - 48);
-                }
-                i += 1;
-            }
-            _ => {
-                return Run { end: i, value: v };
-            }
+        if sort_of(b) != Sort::Digit {
+            return Run { end: i, value };
+        }
+        // past `most` it stays there, so that it cannot wrap
+        if value <= u64::from(most) {
+            value = value * 10 + u64::from(b - b'0');
         }
     }
-    Run { end: i, value: v }
+    Run {
+        end: line.len(),
+        value,
+    }
 }
 
 // Whether the digits from `at` to `end` are at least one, with no zero before another: a first digit 0 stands alone.
@@ -51,15 +53,10 @@ pub(crate) fn plain_at(line: &[u8], at: usize, end: usize) -> bool
     requires { Ended line.now at end }
     ensures { result ≡ plain (digits (drop at line.now)) }
 {
-    if at == line.len() {
+    if at == line.len() || sort_of(line[at]) != Sort::Digit {
         return false;
     }
-    let b = line[at];
-    let c = sort_of(b);
-    match c {
-        Sort::Digit => b != b'0' || end == at + 1,
-        _ => false,
-    }
+    line[at] != b'0' || end == at + 1
 }
 
 // Whether a field ends at `end`: there is a tab, a line feed, or nothing.
@@ -70,53 +67,40 @@ pub(crate) fn field_ends(line: &[u8], end: usize) -> bool
     if end == line.len() {
         return true;
     }
-    let c = sort_of(line[end]);
-    match c {
-        Sort::Tab => true,
-        Sort::Feed => true,
-        _ => false,
-    }
+    let sort = sort_of(line[end]);
+    sort == Sort::Tab || sort == Sort::Feed
 }
 
 // The field at `at` as a number from `low` to `high`.
-pub fn number_at(line: &[u8], at: usize, low: u32, high: u32) -> Number
+pub fn number_at(line: &[u8], at: usize, low: u32, high: u32) -> Result<Number, NumberFault>
     ensures { NumberAt (read_number low high (drop at line.now)) line.now result }
 {
     if line.len() < at {
-        return Number::Malformed;
+        return Err(NumberFault::Malformed);
     }
-    let run = run_at(line, at, high);
-    let end = run.end;
-    let value = run.value;
-    if !plain_at(line, at, end) {
-        return Number::Malformed;
+    let Run { end, value } = run_at(line, at, high);
+    if !plain_at(line, at, end) || !field_ends(line, end) {
+        return Err(NumberFault::Malformed);
     }
-    if !field_ends(line, end) {
-        return Number::Malformed;
+    if u64::from(high) < value || value < u64::from(low) {
+        return Err(NumberFault::Outside);
     }
-    if (high as u64) < value {
-        return Number::Outside;
-    }
-    if value < low as u64 {
-        return Number::Outside;
-    }
-    Number::Value(value as u32, end)
+    Ok(Number {
+        value: value as u32,
+        end,
+    })
 }
 
 // The same for a field that is not the last of its line: its tab is taken too.
-pub fn field_at(line: &[u8], at: usize, low: u32, high: u32) -> Number
+pub fn field_at(line: &[u8], at: usize, low: u32, high: u32) -> Result<Number, NumberFault>
     ensures { NumberAt (read_field low high (drop at line.now)) line.now result }
 {
-    let n = number_at(line, at, low, high);
-    let Number::Value(v, end) = n else {
-        return n;
-    };
-    if end == line.len() {
-        return Number::Malformed;
+    let Number { value, end } = number_at(line, at, low, high)?;
+    if end == line.len() || sort_of(line[end]) != Sort::Tab {
+        return Err(NumberFault::Malformed);
     }
-    let c = sort_of(line[end]);
-    match c {
-        Sort::Tab => Number::Value(v, end + 1),
-        _ => Number::Malformed,
-    }
+    Ok(Number {
+        value,
+        end: end + 1,
+    })
 }

@@ -1,21 +1,14 @@
 // Writing: bytes, words and numbers put into a buffer from a place on. What finds no room is dropped, so that a text can be measured with none.
-ghost use Rattle.std.specs.Prelude.{◌≡◌, [], ◌∷◌, ◌+◌, min};
+ghost use Rattle.std.specs.Prelude.{[], ◌∷◌};
 ghost use Rattle.text.specs.Numbers.{decimal};
-ghost use Rattle.text.specs.Writing.{most_place, Wrote};
+ghost use Rattle.text.specs.Writing.{Wrote};
 
-// The place after `at`, as far as places can be counted.
-pub(crate) fn after(at: usize) -> usize
-    ensures { result ≡ min (at + 1) most_place }
-{
-    if at == usize::MAX { at } else { at + 1 }
-}
-
-// Puts a byte at a place, and gives the place after it.
+// Puts a byte at a place, and gives the place after it, as far as places can be counted.
 pub fn put_byte(buffer: &mut [u8], at: usize, byte: u8) -> usize
     ensures { Wrote buffer.old at (byte ∷ []) buffer.new result }
 {
     if buffer.len() <= at {
-        return after(at);
+        return at.saturating_add(1);
     }
     buffer[at] = byte;
     at + 1
@@ -26,10 +19,8 @@ pub fn put_word(buffer: &mut [u8], at: usize, word: &[u8]) -> usize
     ensures { Wrote buffer.old at word.now buffer.new result }
 {
     let mut next = at;
-    let mut k: usize = 0;
-    while k < word.len() {
-        next = put_byte(buffer, next, word[k]);
-        k += 1;
+    for b in word {
+        next = put_byte(buffer, next, *b);
     }
     next
 }

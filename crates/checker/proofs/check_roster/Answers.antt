@@ -1,14 +1,15 @@
 use borrow.Author.Rules.{rules}
-use mathlib.Core.Path.{sym, ◌∙◌}
+use Rattle.std.proofs.lemmas.Result.{err_from_is_err_and}
 use Rattle.checker.proofs.Answering.{check_refused, ready, check_done}
 use Rattle.checker.proofs.check_roster.Goals as goal
 
-pub returns-then-number-ne0 : goal.returns-then-number-ne0
-returns-then-number-ne0 c = check_refused _ _ _ _ _ _ _ _ _ _ _ c.judged-answer.ensures _ (λ e. c.if-number-ne0.true (c.number.ensures ∙ e))
+pub returns-in_err-judged : goal.returns-in_err-judged
+returns-in_err-judged c = let p = err_from_is_err_and c.from_residual.result c.from_residual.ensures.1 in
+    rw (p.1, p.2) (check_refused _ _ _ _ _ _ _ c.in_err-judged.ensures)
 
-pub right-says-requires : goal.right-says-requires
-right-says-requires c = let r = ready _ _ _ _ _ _ _ _ _ _ _ c.judged-answer.ensures (sym c.number.ensures ∙ c.if-number-ne0.false) in
+pub right-requires : goal.right-requires
+right-requires c = let r = ready _ _ _ _ _ c.in_ok-judged.ensures in
     (r.0, r.1, search rules, r.2)
 
 pub returns : goal.returns
-returns c = check_done _ _ _ _ _ _ _ _ _ _ _ c.judged-answer.ensures (sym c.number.ensures ∙ c.if-number-ne0.false) _ c.right-says.ensures
+returns c = check_done _ _ _ _ _ c.in_ok-judged.ensures _ c.right.ensures

@@ -1,21 +1,21 @@
-use mathlib.Core.Path.{sym, ◌∙◌}
+use mathlib.Core.Path.{sym}
 use native.Mathlib.Omega.{arith}
-use Rattle.drafter.proofs.Making.{zeros_long, shows_pattern, shows_states, sheet_there, shows_sheet}
-use Rattle.text.proofs.Putting.{wrote_is}
 use lib.Seq.{length-take-le}
+use Rattle.text.proofs.Putting.{wrote_is}
+use Rattle.drafter.proofs.Making.{zeros_long, told_pattern, told_states, told_there, told_sheet}
 use Rattle.drafter.proofs.put_draft.Goals as goal
 
-pub returns-then-number-eq15 : goal.returns-then-number-eq15
-returns-then-number-eq15 c = wrote_is _ _ _ _ _ _ (shows_pattern _ _ _ _ c.requires zeros_long _ _ _ _ _ _ _ c.read_pattern-made.ensures (sym c.number-number.ensures ∙ c.if-number-eq15.true)) c.put_word.ensures
-
-pub returns-then-number-eq14 : goal.returns-then-number-eq14
-returns-then-number-eq14 c = wrote_is _ _ _ _ _ _ (shows_states _ _ _ _ c.requires zeros_long _ _ _ _ _ _ _ c.read_pattern-made.ensures (λ z. c.if-number-eq15.false (c.number-number.ensures ∙ z)) (sym c.number-number.ensures ∙ c.if-number-eq14.true)) c.put_word-then-number-eq14.ensures
-
 pub slice_bounds-text-end : goal.slice_bounds-text-end
-slice_bounds-text-end c = sheet_there _ _ _ _ c.requires zeros_long _ _ _ _ _ _ _ c.read_pattern-made.ensures (λ z. c.if-number-eq15.false (c.number-number.ensures ∙ z)) (λ z. c.if-number-eq14.false (c.number-number.ensures ∙ z)) _ (omega arith) _ _ _ c.write_sheet-written.ensures
+slice_bounds-text-end c = told_there _ _ _ _ c.requires zeros_long c.in-Ok.outline _ _ c.in-Ok.ensures _ (omega arith) _ _ c.write_sheet.ensures _ c.unwrap_or-length.ensures
 
-pub slice_bounds-put_word-end-2 : goal.slice_bounds-put_word-end-2
-slice_bounds-put_word-end-2 c = sym (length-take-le _ _ (sheet_there _ _ _ _ c.requires zeros_long _ _ _ _ _ _ _ c.read_pattern-made.ensures (λ z. c.if-number-eq15.false (c.number-number.ensures ∙ z)) (λ z. c.if-number-eq14.false (c.number-number.ensures ∙ z)) _ (omega arith) _ _ _ c.write_sheet-written.ensures))
+pub slice_bounds-put_word-end : goal.slice_bounds-put_word-end
+slice_bounds-put_word-end c = sym (length-take-le _ _ (told_there _ _ _ _ c.requires zeros_long c.in-Ok.outline _ _ c.in-Ok.ensures _ (omega arith) _ _ c.write_sheet.ensures _ c.unwrap_or-length.ensures))
 
-pub returns : goal.returns
-returns c = wrote_is _ _ _ _ _ _ (shows_sheet _ _ _ _ c.requires zeros_long _ _ _ _ _ _ _ c.read_pattern-made.ensures (λ z. c.if-number-eq15.false (c.number-number.ensures ∙ z)) (λ z. c.if-number-eq14.false (c.number-number.ensures ∙ z)) _ (omega arith) _ _ _ c.write_sheet-written.ensures) c.put_word-2.ensures
+pub returns-in-Ok : goal.returns-in-Ok
+returns-in-Ok c = wrote_is _ _ _ _ _ _ (told_sheet _ _ _ _ c.requires zeros_long c.in-Ok.outline _ _ c.in-Ok.ensures _ (omega arith) _ _ c.write_sheet.ensures _ c.unwrap_or-length.ensures) c.put_word.ensures
+
+pub returns-in-ManyStates : goal.returns-in-ManyStates
+returns-in-ManyStates c = wrote_is _ _ _ _ _ _ (told_states _ _ _ _ c.requires zeros_long c.in-Err.answer _ _ c.in-Err.ensures c.in-ManyStates.is) c.put_word-in-ManyStates.ensures
+
+pub returns-in_default : goal.returns-in_default
+returns-in_default c = wrote_is _ _ _ _ _ _ (told_pattern _ _ _ _ c.requires zeros_long c.in-Err.answer _ _ c.in-Err.ensures c.in_default.not-ManyStates) c.put_word-in_default.ensures

@@ -1,4 +1,4 @@
 use Rattle.reedgosling.proofs.reedgosling_back.Goals as goal
 
 pub returns : goal.returns
-returns c = rw c.number.ensures c.back-answer.ensures
+returns c = rw (c.from.ensures, c.number_of.ensures, ← c.rule_set-rules.ensures c.args.places) c.back-done.ensures

@@ -1,3 +1,4 @@
+use borrow.Author.Rules.{rules}
 use native.Mathlib.Omega.{arith}
 use Rattle.rules.proofs.Checks.{test_failed, test_passed, sizes_of}
 use Rattle.ledger.specs.Sessions.{opening}
@@ -15,10 +16,10 @@ pub returns-then-not-lengths_right : goal.returns-then-not-lengths_right
 returns-then-not-lengths_right c = open_lengths _ _ _ _ (test_passed c.sizes_right.ensures c.if-not-sizes_right.false) (test_failed c.lengths_right.ensures c.if-not-lengths_right.true)
 
 pub returns-then-not-rules_right : goal.returns-then-not-rules_right
-returns-then-not-rules_right c = open_rules _ _ _ _ (test_passed c.sizes_right.ensures c.if-not-sizes_right.false) (test_passed c.lengths_right.ensures c.if-not-lengths_right.false) (test_failed c.rules_right.ensures c.if-not-rules_right.true) _ c.clear.ensures
+returns-then-not-rules_right c = open_rules _ _ _ _ (test_passed c.sizes_right.ensures c.if-not-sizes_right.false) (test_passed c.lengths_right.ensures c.if-not-lengths_right.false) (test_failed c.rules_right.ensures c.if-not-rules_right.true) c.fill.new.self (search rules)
 
 pub returns-then-not-masks_right : goal.returns-then-not-masks_right
-returns-then-not-masks_right c = open_mask _ _ _ _ (test_passed c.sizes_right.ensures c.if-not-sizes_right.false) (test_passed c.lengths_right.ensures c.if-not-lengths_right.false) (test_passed c.rules_right.ensures c.if-not-rules_right.false) (test_failed c.masks_right.ensures c.if-not-masks_right.true) _ c.clear-then-not-masks_right.ensures
+returns-then-not-masks_right c = open_mask _ _ _ _ (test_passed c.sizes_right.ensures c.if-not-sizes_right.false) (test_passed c.lengths_right.ensures c.if-not-lengths_right.false) (test_passed c.rules_right.ensures c.if-not-rules_right.false) (test_failed c.masks_right.ensures c.if-not-masks_right.true) c.fill-then-not-masks_right.new.self (search rules)
 
 pub overflow_add-front : goal.overflow_add-front
 overflow_add-front c = omega (arith, (sizes_of _ _ _ _ (test_passed c.sizes_right.ensures c.if-not-sizes_right.false)).few_places, (lengths_of _ _ _ _ _ _ (test_passed c.lengths_right.ensures c.if-not-lengths_right.false)).memory_is)

@@ -1,35 +1,32 @@
 use native.Mathlib.Omega.{arith}
-use mathlib.Core.Path.{refl, sym, ◌∙◌}
-use lib.Seq.{length-take-le}
+use mathlib.Core.Path.{ap, ◌∙◌}
+use lib.ListN.{length, get_or}
+use mathlib.Core.List.{List}
+use Prim.Native.Nat.{ℕ}
+use Rattle.numbering.specs.Numbering.{row_of}
+use Rattle.compositor.specs.Inner.{onward_in}
 use Rattle.compositor.proofs.Filling.{filled_start, filled_room, filled_turn, filled_end}
 use Rattle.compositor.proofs.fill.fill.Goals as goal
 
 pub loop-q-init : goal.loop-q-init
-loop-q-init c = (omega arith, refl, filled_start _ _ _ _)
-
-pub slice_bounds-onward_row-end : goal.slice_bounds-onward_row-end
-slice_bounds-onward_row-end c = sym c.loop-q.invariant.1
-
-pub onward_row-requires : goal.onward_row-requires
-onward_row-requires c = (c.requires.2, omega arith, omega arith)
-
-pub slice_bounds-row-end : goal.slice_bounds-row-end
-slice_bounds-row-end c = omega (arith, c.onward_row.ensures.long)
-
-pub slice_bounds-put_row-end : goal.slice_bounds-put_row-end
-slice_bounds-put_row-end c = sym (length-take-le _ _ (omega (arith, c.onward_row.ensures.long)))
+loop-q-init c = filled_start _ _ _ _
 
 pub put_row-requires : goal.put_row-requires
-put_row-requires c = (filled_room _ _ c.args.n c.args.list.now _ _ _ _ c.loop-q.invariant.2 _ c.requires.0 (omega arith) c.requires.1, c.requires.4, c.requires.5)
+put_row-requires c =
+    (filled_room _ _ _ _ _ _ c.loop-q.invariant c.requires.0 (omega (arith, ap length c.configurations-c-items.ensures)) c.requires.2 c.requires.1 c.onward_row-row.result, c.requires.2)
 
-pub overflow_add-at : goal.overflow_add-at
-overflow_add-at c = omega (arith, filled_room _ _ c.args.n c.args.list.now _ _ _ _ c.loop-q.invariant.2 c.loop-q.row c.requires.0 (omega arith) c.requires.1)
+pub overflow_mul-q : goal.overflow_mul-q
+overflow_mul-q c =
+    omega (
+      arith,
+      c.loop-q.auto.targets,
+      filled_room _ _ _ _ _ _ c.loop-q.invariant c.requires.0 (omega (arith, ap length c.configurations-c-items.ensures)) c.requires.2 c.requires.1 c.onward_row-row.result,
+    )
 
 pub loop-q-preserved : goal.loop-q-preserved
-loop-q-preserved c = (omega arith, c.onward_row.ensures.long ∙ c.loop-q.invariant.1, filled_turn _ _ _ _ _ _ _ _ c.loop-q.invariant.2 _ _ _ c.requires.4 (omega arith) c.requires.0 (omega arith) c.requires.1 c.onward_row.ensures c.put_row.ensures)
-
-pub shape_of-targets : goal.shape_of-targets
-shape_of-targets c = c.loop-q.invariant.2.long
+loop-q-preserved c =
+    filled_turn _ _ _ _ _ _ c.loop-q.invariant c.requires.0 (omega (arith, ap length c.configurations-c-items.ensures)) c.requires.2 c.requires.1 _ _
+    (c.onward_row-row.ensures ∙ ap (λ (cs : List ℕ). row_of (onward_in c.args.automaton.now) c.args.values (get_or cs c.loop-q.q 0)) c.configurations-c-items.ensures) c.put_row.ensures
 
 pub returns : goal.returns
-returns c = filled_end _ _ _ _ _ _ _ (let l = length-take-le c.args.n c.args.list.now c.requires.4 in omega arith) c.loop-q.invariant.2
+returns c = filled_end _ _ _ _ _ _ (omega (arith, ap length c.configurations-c-items.ensures)) c.loop-q.invariant

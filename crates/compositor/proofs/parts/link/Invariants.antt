@@ -1,4 +1,3 @@
-use Prim.Native.Nat.{◌≤◌, ◌-◌}
 use mathlib.Core.Path.{◌≡◌}
 use lib.ListN.{length}
 use Rattle.patterns.specs.Line.{most_letters}
@@ -6,7 +5,4 @@ use Rattle.compositor.specs.Inner.{link_to}
 use Rattle.compositor.proofs.parts.link.Given as goal
 
 abbrev pub invariant-loop-i : goal.invariant-loop-i
-invariant-loop-i l = (l.i ≤ most_letters) × (length l.follow ≡ most_letters) × (l.follow ≡ link_to l.initial.follow l.l l.f l.i)
-
-abbrev pub decreases-loop-i : goal.decreases-loop-i
-decreases-loop-i l = most_letters - l.i
+invariant-loop-i l = (length l.follow ≡ most_letters) × (l.follow ≡ link_to l.initial.follow l.l l.f l.i)

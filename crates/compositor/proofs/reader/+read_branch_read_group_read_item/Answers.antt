@@ -1,64 +1,67 @@
 use mathlib.Core.Path.{refl, sym, ◌∙◌}
 use native.Mathlib.Omega.{arith}
+use Rattle.rules.proofs.Checks.{test_failed, test_passed}
 use Rattle.patterns.specs.Line.{item, branch, is_letter}
 use Rattle.patterns.proofs.Reading.{there, letter_there, eq_open, eq_branch_end, eq_branch_broken, eq_group_end, eq_group_broken}
 use Rattle.compositor.proofs.Joining.{letter_of}
 use Rattle.compositor.proofs.Ring.{told_wrong, wrong_of, one_alone, one_wrong, item_letter, item_other, item_deep, item_closed, item_none, branch_none, branch_join, group_none, group_join, room, past, letter_room}
 use Rattle.compositor.proofs.reader.+read_branch_read_group_read_item.Goals as goal
 
+pub read_branch-returns-in_err-p : goal.read_branch-returns-in_err-p
+read_branch-returns-in_err-p t c = rw c.from_residual.ensures (told_wrong (branch_none _ _ _ (wrong_of c.read_item.ensures c.in_err-p.was)))
+
+pub read_branch-returns-then-not-starts : goal.read_branch-returns-then-not-starts
+read_branch-returns-then-not-starts t c =
+    one_alone c.read_item.ensures c.in_ok-p.was (λ p g. eq_branch_end _ _ _ p _ g (test_failed c.starts.ensures c.if-not-starts.true))
+
 pub read_branch-read_branch-requires : goal.read_branch-read_branch-requires
 read_branch-read_branch-requires t c =
-    let m = room item _ _ _ c.requires.0 c.read_item.ensures c.in-At.is in
-    (omega (arith, m, c.decreases), (m.letters, c.read_item.auto.follow ∙ c.requires.1))
+    let m = room item _ _ _ c.requires c.read_item.ensures c.in_ok-p.was in
+    (omega (arith, m, c.decreases), m.letters)
 
-pub read_branch-returns-in-At-read_branch : goal.read_branch-returns-in-At-read_branch
-read_branch-returns-in-At-read_branch t c =
-    branch_join _ _ _ c.read_item.ensures c.in-At.is (sym c.starts.ensures ∙ c.if-starts.true) c.read_branch.ensures c.in-At-read_branch.is c.then_part.ensures
+pub read_branch-returns-in_err-q : goal.read_branch-returns-in_err-q
+read_branch-returns-in_err-q t c =
+    rw c.from_residual-in_err-q.ensures
+    (one_wrong c.read_item.ensures c.in_ok-p.was
+    (λ p g. eq_branch_broken _ _ _ p _ g (test_passed c.starts.ensures c.if-not-starts.false) (wrong_of c.read_branch.ensures c.in_err-q.was)))
 
-pub read_branch-returns-in-Bad-read_branch : goal.read_branch-returns-in-Bad-read_branch
-read_branch-returns-in-Bad-read_branch t c =
-    one_wrong c.read_item.ensures c.in-At.is
-    (λ p g. eq_branch_broken _ _ _ p _ g (sym c.starts.ensures ∙ c.if-starts.true) (wrong_of c.read_branch.ensures c.in-Bad-read_branch.is))
+pub read_branch-returns : goal.read_branch-returns
+read_branch-returns t c =
+    branch_join _ _ _ c.read_item.ensures c.in_ok-p.was (test_passed c.starts.ensures c.if-not-starts.false) c.read_branch.ensures c.in_ok-q.was c.then_part.ensures
 
-pub read_branch-returns-else-starts : goal.read_branch-returns-else-starts
-read_branch-returns-else-starts t c = one_alone c.read_item.ensures c.in-At.is (λ p g. eq_branch_end _ _ _ p _ g (sym c.starts.ensures ∙ c.if-starts.false))
+pub read_group-returns-in_err-p : goal.read_group-returns-in_err-p
+read_group-returns-in_err-p t c = rw c.from_residual.ensures (told_wrong (group_none _ _ _ (wrong_of c.read_branch.ensures c.in_err-p.was)))
 
-pub read_branch-returns-in-Bad : goal.read_branch-returns-in-Bad
-read_branch-returns-in-Bad t c = told_wrong (branch_none _ _ _ (wrong_of c.read_item.ensures c.in-Bad.is))
+pub read_group-returns-then-byte_at-ne124 : goal.read_group-returns-then-byte_at-ne124
+read_group-returns-then-byte_at-ne124 t c =
+    one_alone c.read_branch.ensures c.in_ok-p.was (λ p g. eq_group_end _ _ _ p _ g (λ h. c.if-byte_at-ne124.true (c.byte_at.ensures ∙ h)))
 
-pub read_group-overflow_add-e : goal.read_group-overflow_add-e
-read_group-overflow_add-e t c = omega (arith, there c.args.s.now c.in-At.p.at 124 (sym c.byte_at.ensures ∙ c.if-byte_at-eq124.true) (omega arith))
+pub read_group-overflow_add-p : goal.read_group-overflow_add-p
+read_group-overflow_add-p t c = omega (arith, there c.args.s.now c.in_ok-p.p.at 124 (sym c.byte_at.ensures ∙ c.if-byte_at-ne124.false) (omega arith))
 
 pub read_group-read_group-requires : goal.read_group-read_group-requires
 unfolding is_letter
 read_group-read_group-requires t c =
-    let m = room branch _ _ _ c.requires.0 c.read_branch.ensures c.in-At.is in
-    let g = sym c.byte_at.ensures ∙ c.if-byte_at-eq124.true in
-    let l = past c.args.s.now c.in-At.p.at 124 c.in-At.p.place (omega arith) refl g m.letters in
-    (omega (arith, m, c.decreases), (l, c.read_branch.auto.follow ∙ c.requires.1))
+    let m = room branch _ _ _ c.requires c.read_branch.ensures c.in_ok-p.was in
+    let g = sym c.byte_at.ensures ∙ c.if-byte_at-ne124.false in
+    (omega (arith, m, c.decreases), past c.args.s.now c.in_ok-p.p.at 124 c.in_ok-p.p.place (omega arith) refl g m.letters)
 
-pub read_group-returns-in-At-read_group : goal.read_group-returns-in-At-read_group
-read_group-returns-in-At-read_group t c =
-    group_join _ _ _ c.read_branch.ensures c.in-At.is (sym c.byte_at.ensures ∙ c.if-byte_at-eq124.true) c.read_group.ensures c.in-At-read_group.is c.or_part.ensures
+pub read_group-returns-in_err-q : goal.read_group-returns-in_err-q
+read_group-returns-in_err-q t c =
+    rw c.from_residual-in_err-q.ensures
+    (one_wrong c.read_branch.ensures c.in_ok-p.was
+    (λ p g. eq_group_broken _ _ _ p _ g (sym c.byte_at.ensures ∙ c.if-byte_at-ne124.false) (wrong_of c.read_group.ensures c.in_err-q.was)))
 
-pub read_group-returns-in-Bad-read_group : goal.read_group-returns-in-Bad-read_group
-read_group-returns-in-Bad-read_group t c =
-    one_wrong c.read_branch.ensures c.in-At.is
-    (λ p g. eq_group_broken _ _ _ p _ g (sym c.byte_at.ensures ∙ c.if-byte_at-eq124.true) (wrong_of c.read_group.ensures c.in-Bad-read_group.is))
-
-pub read_group-returns-else-byte_at-eq124 : goal.read_group-returns-else-byte_at-eq124
-read_group-returns-else-byte_at-eq124 t c =
-    one_alone c.read_branch.ensures c.in-At.is (λ p g. eq_group_end _ _ _ p _ g (λ h. c.if-byte_at-eq124.false (c.byte_at.ensures ∙ h)))
-
-pub read_group-returns-in-Bad : goal.read_group-returns-in-Bad
-read_group-returns-in-Bad t c = told_wrong (group_none _ _ _ (wrong_of c.read_branch.ensures c.in-Bad.is))
+pub read_group-returns : goal.read_group-returns
+read_group-returns t c =
+    group_join _ _ _ c.read_branch.ensures c.in_ok-p.was (sym c.byte_at.ensures ∙ c.if-byte_at-ne124.false) c.read_group.ensures c.in_ok-q.was c.or_part.ensures
 
 pub read_item-overflow_add-at : goal.read_item-overflow_add-at
 read_item-overflow_add-at t c = omega (arith, letter_there c.args.s.now c.args.at (letter_of c.is_letter.ensures c.byte_at-b.ensures c.if-is_letter.true))
 
 pub read_item-letter_part-p-requires : goal.read_item-letter_part-p-requires
 read_item-letter_part-p-requires t c =
-    letter_room c.args.s.now c.args.at c.args.place (letter_of c.is_letter.ensures c.byte_at-b.ensures c.if-is_letter.true) c.requires.0
+    letter_room c.args.s.now c.args.at c.args.place (letter_of c.is_letter.ensures c.byte_at-b.ensures c.if-is_letter.true) c.requires
 
 pub read_item-returns-then-is_letter : goal.read_item-returns-then-is_letter
 read_item-returns-then-is_letter t c =
@@ -79,23 +82,24 @@ pub read_item-read_group-requires : goal.read_item-read_group-requires
 unfolding is_letter
 read_item-read_group-requires t c =
     let g = sym c.byte_at-b.ensures ∙ c.if-b-ne40.false in
-    (omega (arith, there c.args.s.now c.args.at 40 g (omega arith), c.decreases), (past c.args.s.now c.args.at 40 c.args.place (omega arith) refl g c.requires.0, c.requires.1))
+    (omega (arith, there c.args.s.now c.args.at 40 g (omega arith), c.decreases), past c.args.s.now c.args.at 40 c.args.place (omega arith) refl g c.requires)
 
-pub read_item-overflow_add-e : goal.read_item-overflow_add-e
-read_item-overflow_add-e t c = omega (arith, there c.args.s.now c.in-At.p.at 41 (sym c.byte_at.ensures ∙ c.if-byte_at-eq41.true) (omega arith))
+pub read_item-returns-in_err-p : goal.read_item-returns-in_err-p
+read_item-returns-in_err-p t c =
+    rw c.from_residual.ensures
+    (told_wrong (item_none _ _ _ (letter_of c.is_letter.ensures c.byte_at-b.ensures c.if-is_letter.false) (sym c.byte_at-b.ensures ∙ c.if-b-ne40.false)
+    c.if-depth-eq0.false (wrong_of c.read_group.ensures c.in_err-p.was)))
 
-pub read_item-returns-then-byte_at-eq41 : goal.read_item-returns-then-byte_at-eq41
-read_item-returns-then-byte_at-eq41 t c =
-    item_closed _ _ _ (letter_of c.is_letter.ensures c.byte_at-b.ensures c.if-is_letter.false) (sym c.byte_at-b.ensures ∙ c.if-b-ne40.false)
-    c.if-depth-eq0.false c.read_group.ensures c.in-At.is (sym c.byte_at.ensures ∙ c.if-byte_at-eq41.true) c.extended-q.ensures c.suffixed-then-byte_at-eq41.ensures
-
-pub read_item-returns-else-byte_at-eq41 : goal.read_item-returns-else-byte_at-eq41
-read_item-returns-else-byte_at-eq41 t c =
-    one_wrong c.read_group.ensures c.in-At.is
+pub read_item-returns-then-byte_at-ne41 : goal.read_item-returns-then-byte_at-ne41
+read_item-returns-then-byte_at-ne41 t c =
+    one_wrong c.read_group.ensures c.in_ok-p.was
     (λ p g. eq_open _ _ _ p _ (letter_of c.is_letter.ensures c.byte_at-b.ensures c.if-is_letter.false) (sym c.byte_at-b.ensures ∙ c.if-b-ne40.false)
-    c.if-depth-eq0.false g (λ h. c.if-byte_at-eq41.false (c.byte_at.ensures ∙ h)))
+    c.if-depth-eq0.false g (λ h. c.if-byte_at-ne41.true (c.byte_at.ensures ∙ h)))
 
-pub read_item-returns-in-Bad : goal.read_item-returns-in-Bad
-read_item-returns-in-Bad t c =
-    told_wrong (item_none _ _ _ (letter_of c.is_letter.ensures c.byte_at-b.ensures c.if-is_letter.false) (sym c.byte_at-b.ensures ∙ c.if-b-ne40.false)
-    c.if-depth-eq0.false (wrong_of c.read_group.ensures c.in-Bad.is))
+pub read_item-overflow_add-p : goal.read_item-overflow_add-p
+read_item-overflow_add-p t c = omega (arith, there c.args.s.now c.in_ok-p.p.at 41 (sym c.byte_at.ensures ∙ c.if-byte_at-ne41.false) (omega arith))
+
+pub read_item-returns : goal.read_item-returns
+read_item-returns t c =
+    item_closed _ _ _ (letter_of c.is_letter.ensures c.byte_at-b.ensures c.if-is_letter.false) (sym c.byte_at-b.ensures ∙ c.if-b-ne40.false)
+    c.if-depth-eq0.false c.read_group.ensures c.in_ok-p.was (sym c.byte_at.ensures ∙ c.if-byte_at-ne41.false) c.extended-q.ensures c.suffixed-2.ensures

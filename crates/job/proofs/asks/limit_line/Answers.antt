@@ -1,44 +1,32 @@
+use mathlib.Core.Path.{sym, ◌∙◌}
 use native.Mathlib.Omega.{arith}
-use mathlib.Core.Path.{sym, ap, ◌∙◌}
-use Rattle.text.specs.Lines.{wrong}
+use Rattle.std.proofs.lemmas.Result.{err_from_is_err_and}
 use Rattle.text.proofs.Judging.{field_range, number_right, number_wrong, sealed_is}
 use Rattle.job.specs.Input.{read_limit}
 use Rattle.job.proofs.asks.limit_line.Goals as goal
 
-pub returns-in_default : goal.returns-in_default
+pub returns-in_err-place : goal.returns-in_err-place
 unfolding read_limit
-returns-in_default c = record {
-  reads =
-      ap wrong c.fault_of.ensures ∙ sym (number_wrong _ _ _ c.field_at-a.ensures _ c.in_default.not-Value);
-  inside = tt;
-}
+returns-in_err-place c = let p = err_from_is_err_and c.from_residual.result c.from_residual.ensures.1 in rw (p.1, p.2) (sym (number_wrong _ _ _ c.field_at.ensures _ _ c.in_err-place.was))
 
-pub returns-in_default-b : goal.returns-in_default-b
+pub returns-in_err-cost : goal.returns-in_err-cost
 unfolding read_limit
-returns-in_default-b c = record {
-  reads =
-      ap wrong c.fault_of-in_default-b.ensures
-      ∙ sym (number_right _ _ _ c.field_at-a.ensures _ _ _ c.in-Value.is
-      ∙ number_wrong _ _ _ c.number_at-b.ensures _ c.in_default-b.not-Value);
-  inside = tt;
-}
+returns-in_err-cost c = let p = err_from_is_err_and c.from_residual-in_err-cost.result c.from_residual-in_err-cost.ensures.1 in rw (p.1, p.2)
+    (sym (number_right _ _ _ c.field_at.ensures _ _ c.in_ok-place.was
+    ∙ number_wrong _ _ _ c.number_at.ensures _ _ c.in_err-cost.was))
 
-pub returns-in-Fine : goal.returns-in-Fine
+pub returns-in_err-close_at : goal.returns-in_err-close_at
 unfolding read_limit
-returns-in-Fine c = record {
-  reads =
-      sym (number_right _ _ _ c.field_at-a.ensures _ _ _ c.in-Value.is
-      ∙ number_right _ _ _ c.number_at-b.ensures _ _ _ c.in-Value-b.is
-      ∙ sealed_is _ _ _ _ c.close_at-e.ensures c.in-Fine.is);
-  inside = omega (arith, field_range _ _ _ _ _ c.field_at-a.ensures _ _ c.in-Value.is);
-}
+returns-in_err-close_at c = let p = err_from_is_err_and c.from_residual-in_err-close_at.result c.from_residual-in_err-close_at.ensures.1 in rw (p.1, p.2)
+    (sym (number_right _ _ _ c.field_at.ensures _ _ c.in_ok-place.was
+    ∙ number_right _ _ _ c.number_at.ensures _ _ c.in_ok-cost.was
+    ∙ sealed_is _ _ _ _ c.close_at.ensures c.in_err-close_at.was))
 
-pub returns-in-Faulty : goal.returns-in-Faulty
+pub returns : goal.returns
 unfolding read_limit
-returns-in-Faulty c = record {
-  reads =
-      sym (number_right _ _ _ c.field_at-a.ensures _ _ _ c.in-Value.is
-      ∙ number_right _ _ _ c.number_at-b.ensures _ _ _ c.in-Value-b.is
-      ∙ sealed_is _ _ _ _ c.close_at-e.ensures c.in-Faulty.is);
-  inside = tt;
-}
+returns c = (
+  sym (number_right _ _ _ c.field_at.ensures _ _ c.in_ok-place.was
+      ∙ number_right _ _ _ c.number_at.ensures _ _ c.in_ok-cost.was
+      ∙ sealed_is _ _ _ _ c.close_at.ensures c.in_ok-close_at.was),
+  omega (arith, field_range _ _ _ _ _ c.field_at.ensures _ c.in_ok-place.was),
+)

@@ -1,6 +1,5 @@
-use mathlib.Core.Path.{sym, ◌∙◌}
-use lib.Seq.{length-take-le}
-use Rattle.meaning.specs.Meaning.{rules_of}
+use mathlib.Core.Path.{◌∙◌}
+use Rattle.rules.specs.Checks.{rules_in}
 use Rattle.text.proofs.Putting.{wrote_is}
 use Rattle.job.specs.Output.{job_line}
 use Rattle.job.specs.Inner.{program}
@@ -8,25 +7,22 @@ use Rattle.job.proofs.Planning.{days_is, days_range, job_empty, job_wrong, job_r
 use native.Mathlib.Omega.{arith}
 use Rattle.job.proofs.plan.plan.Goals as goal
 
+pub carry_task-requires : goal.carry_task-requires
+carry_task-requires c = let d = days_range _ _ (c.in-Ok.ensures ∙ days_is _) in (c.requires, d.0, d.1, (c.line_end-end.ensures.inside (omega arith)).high)
+
 pub returns-then-text-eq0 : goal.returns-then-text-eq0
 unfolding job_line
 returns-then-text-eq0 c = let a = c.args in
-    let done = program a.task (rules_of a.size.states a.size.values a.targets.now a.costs.now a.accepting) a.size.start.0 in
+    let done = program a.task (rules_in a.rules.now) a.rules.now.size.start.0 in
     wrote_is _ _ _ _ _ _ (job_empty done a.text.now (omega arith)) c.put_line.ensures
 
-pub slice_bounds-count_line-end : goal.slice_bounds-count_line-end
-slice_bounds-count_line-end c = let l = c.line_end-end.ensures.inside (omega arith) in sym (length-take-le _ _ l.high)
-
-pub carry_task-requires : goal.carry_task-requires
-carry_task-requires c = let d = days_range _ _ _ (c.count_line-first.ensures ∙ days_is _) c.in-Right.is in (c.requires, d.0, d.1, (c.line_end-end.ensures.inside (omega arith)).high)
-
-pub returns-in-Wrong : goal.returns-in-Wrong
+pub returns-in-Err : goal.returns-in-Err
 unfolding job_line
-returns-in-Wrong c = let a = c.args in
-    let done = program a.task (rules_of a.size.states a.size.values a.targets.now a.costs.now a.accepting) a.size.start.0 in
-    wrote_is _ _ _ _ _ _ (job_wrong done a.text.now _ (c.line_end-end.ensures.inside (omega arith)) c.count_line-first.result (c.count_line-first.ensures ∙ days_is _) _ c.in-Wrong.is) c.put_line-in-Wrong.ensures
+returns-in-Err c = let a = c.args in
+    let done = program a.task (rules_in a.rules.now) a.rules.now.size.start.0 in
+    wrote_is _ _ _ _ _ _ (job_wrong done a.text.now _ (c.line_end-end.ensures.inside (omega arith)) _ (c.in-Err.ensures ∙ days_is _)) c.put_line-in-Err.ensures
 
-pub returns-in-Right : goal.returns-in-Right
-returns-in-Right c = let a = c.args in
-    let done = program a.task (rules_of a.size.states a.size.values a.targets.now a.costs.now a.accepting) a.size.start.0 in
-    wrote_is _ _ _ _ _ _ (job_right done a.text.now _ (c.line_end-end.ensures.inside (omega arith)) c.count_line-first.result (c.count_line-first.ensures ∙ days_is _) _ c.in-Right.is) c.carry_task.ensures
+pub returns-in-Ok : goal.returns-in-Ok
+returns-in-Ok c = let a = c.args in
+    let done = program a.task (rules_in a.rules.now) a.rules.now.size.start.0 in
+    wrote_is _ _ _ _ _ _ (job_right done a.text.now _ (c.line_end-end.ensures.inside (omega arith)) _ (c.in-Ok.ensures ∙ days_is _)) c.carry_task.ensures

@@ -1,5 +1,5 @@
 use native.Mathlib.Omega.{arith}
-use Rattle.job.proofs.Taking.{asked_in, keep_taken, limit_taken, none_taken}
+use Rattle.job.proofs.Taking.{asked_in, keep_taken, limit_taken}
 use Rattle.job.proofs.take.take_one.Goals as goal
 
 pub offset_bounds-masks-place : goal.offset_bounds-masks-place
@@ -30,7 +30,4 @@ pub returns-in-Keep : goal.returns-in-Keep
 returns-in-Keep c = keep_taken _ _ _ _ _ _ c.in-Keep.is c.meet-met.ensures (omega (arith, c.slice_known-1.given c.in-Keep.place)) (omega arith)
 
 pub returns-in-Limit : goal.returns-in-Limit
-returns-in-Limit c = limit_taken _ _ _ _ _ _ c.in-Limit.is c.lesser.ensures
-
-pub returns-in-Wrong : goal.returns-in-Wrong
-returns-in-Wrong c = none_taken _ _ _ _ c.in-Wrong.is
+returns-in-Limit c = limit_taken _ _ _ _ _ _ c.in-Limit.is c.min.ensures

@@ -1,4 +1,3 @@
-use Prim.Native.Nat.{◌-◌}
 use lib.ListN.{length}
 use Rattle.job.specs.Mend.{read_drawn}
 use Rattle.job.proofs.Drawing.{Drawing}
@@ -6,6 +5,3 @@ use Rattle.job.proofs.wish.drawn_line.Given as goal
 
 abbrev pub invariant-loop-i : goal.invariant-loop-i
 invariant-loop-i l = Drawing (read_drawn (length l.initial.drawn) l.values l.line) l.line l.values (length l.initial.drawn) l.drawn l.at l.i
-
-abbrev pub decreases-loop-i : goal.decreases-loop-i
-decreases-loop-i l = l.last - l.i

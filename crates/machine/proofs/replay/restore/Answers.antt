@@ -1,18 +1,11 @@
 use native.Mathlib.Omega.{arith}
-use mathlib.Core.Path.{sym, ap₂, ◌∙◌}
+use mathlib.Core.Path.{ap₂, ◌∙◌}
 use lib.ListN.{length-take, length-drop}
-use lib.Seq.{length-take-le}
 use Rattle.ledger.specs.Sessions.{opening}
 use Rattle.ledger.specs.Memory.{opening_at}
 use Rattle.ledger.proofs.Numbers.{tail_is}
 use Rattle.machine.proofs.Copies.{copied_is}
 use Rattle.machine.proofs.replay.restore.Goals as goal
-
-pub slice_bounds-narrow-end : goal.slice_bounds-narrow-end
-slice_bounds-narrow-end c = sym (length-take-le c.args.places c.args.held.now (omega arith))
-
-pub narrow-requires : goal.narrow-requires
-narrow-requires c = (simp length-take (omega arith), c.requires.3)
 
 pub returns : goal.returns
 unfolding opening_at

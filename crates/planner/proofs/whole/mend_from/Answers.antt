@@ -1,28 +1,20 @@
-use mathlib.Core.Path.{ap, ◌∙◌}
-use mathlib.Core.Logic.{inl, inr}
-use lib.ListN.{length}
-use Rattle.planner.proofs.Both.{ready_filled, walk_room, mends}
+use mathlib.Core.Path.{◌∙◌}
+use Rattle.planner.proofs.Both.{ready_filled, walk_room, mends_some, mends_none}
+use native.Mathlib.Omega.{arith}
 use Rattle.planner.proofs.whole.mend_from.Goals as goal
-use Rattle.planner.proofs.whole.mend_from.Goals.{then-made-most, else-made-most}
+use Rattle.planner.proofs.whole.mend_from.Goals.{in-Some, in_default}
 
 pub walk-requires : goal.walk-requires
 walk-requires c = let p = c.requires in
-    let a = c.args in
-    let n = c.fewest-made in
-    (ready_filled p.0 n.auto.work c.if-made-most.true, p.1, walk_room p.0 a.accepting a.start.0 a.spent p.1 (n.ensures.right p.0 p.1) c.if-made-most.true, p.3)
-
-pub shape_of-roster : goal.shape_of-roster
-shape_of-roster c = elim c.if-made-most.branch [
-  | then-made-most w ↦ ap length w.roster-is ∙ w.walk.auto.roster
-  | else-made-most w ↦ ap length w.roster-is
-]
+    let n = c.fewest-found in
+    let s = n.ensures.some p.0 p.1 _ c.in-Some.is in
+    (ready_filled p.0 n.auto.work s.0, p.1, walk_room p.0 _ _ c.args.spent p.1 s.1 s.0, p.3)
 
 pub returns : goal.returns
 returns c = let p = c.requires in
-    let a = c.args in
-    let n = c.fewest-made in
-    mends p.0 a.accepting a.start.0 a.spent p.1 (n.ensures.right p.0 p.1) p.2
-    (elim c.if-made-most.branch [
-      | then-made-most w ↦ inl (w.if-made-most.true, rw w.roster-is w.walk.ensures)
-      | else-made-most w ↦ inr (w.if-made-most.false, w.roster-is)
-    ]) c.wipe.ensures n.auto.work
+    let n = c.fewest-found in
+    elim c.match-found.branch [
+      | in-Some w ↦ let s = n.ensures.some p.0 p.1 _ w.in-Some.is in
+          rw (w.found-is, w.roster-is) (mends_some p.0 _ _ _ p.1 s.1 p.2 c.wipe.ensures n.auto.work s.0 w.walk.ensures)
+      | in_default w ↦ rw (w.found-is ∙ w.in_default.is) (mends_none p.0 _ _ _ p.1 (n.ensures.none p.0 p.1 w.in_default.is) p.2 c.wipe.ensures n.auto.work (omega arith) w.roster-is)
+    ]

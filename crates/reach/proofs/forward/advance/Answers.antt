@@ -13,12 +13,12 @@ loop-q-init c = (omega arith, refl, refl, filled_none _ _, filled_none _ _)
 pub strike-requires : goal.strike-requires
 strike-requires c = let l = c.loop-q in
     let p = c.requires in
-    (rw (l.invariant.4.left l.q.0 (omega arith)) (p.5.low l.q.0 (omega arith)), p.4.low l.q.0 (omega arith))
+    (rw (l.invariant.4.left l.q (omega arith)) (p.5.low l.q (omega arith)), p.4.low l.q (omega arith))
 
 pub loop-q-preserved : goal.loop-q-preserved
 unfolding top
 loop-q-preserved c = let l = c.loop-q in
-    (omega arith, simp length-set l.invariant.1, simp length-set l.invariant.2, filled_more _ (omega arith) l.invariant.3 (c.strike.ensures ∙ rw (l.invariant.4.left l.q.0 (omega arith), within c.args.needs.now l.q.0 0 (suc top) (omega arith))), filled_more _ (omega arith) l.invariant.4 refl)
+    (omega arith, simp length-set l.invariant.1, simp length-set l.invariant.2, filled_more _ (omega arith) l.invariant.3 (c.strike.ensures ∙ rw (l.invariant.4.left l.q (omega arith), within c.args.needs.now l.q 0 (suc top) (omega arith))), filled_more _ (omega arith) l.invariant.4 refl)
 
 pub shape_of-front : goal.shape_of-front
 shape_of-front c = c.loop-q.invariant.1

@@ -1,4 +1,4 @@
-use Prim.Native.Nat.{ℕ, suc, ◌≤◌, ◌-◌}
+use Prim.Native.Nat.{ℕ, suc, ◌≤◌}
 use mathlib.Core.Path.{◌≡◌}
 use lib.ListN.{length, get_or}
 use Rattle.meaning.specs.Bounds.{top}
@@ -7,7 +7,4 @@ use Rattle.reach.specs.Looks.{struck}
 use Rattle.reach.proofs.forward.advance.Given as goal
 
 abbrev pub invariant-loop-q : goal.invariant-loop-q
-invariant-loop-q l = (l.q.0 ≤ l.states) × (length l.front ≡ length l.initial.front) × (length l.onward ≡ length l.initial.onward) × Filled (λ (k : ℕ). struck (get_or l.initial.onward k 0) (rooms_by l.needs k)) l.q.0 l.initial.front l.front × Filled (λ (k : ℕ). suc top) l.q.0 l.initial.onward l.onward
-
-abbrev pub decreases-loop-q : goal.decreases-loop-q
-decreases-loop-q l = l.states - l.q.0
+invariant-loop-q l = (l.q ≤ l.states) × (length l.front ≡ length l.initial.front) × (length l.onward ≡ length l.initial.onward) × Filled (λ (k : ℕ). struck (get_or l.initial.onward k 0) (rooms_by l.needs k)) l.q l.initial.front l.front × Filled (λ (k : ℕ). suc top) l.q l.initial.onward l.onward

@@ -10,10 +10,10 @@ loop-q-init c = (omega arith, live_none _, refl)
 
 pub loop-q-preserved : goal.loop-q-preserved
 loop-q-preserved c = let l = c.loop-q in
-    let b = next_bit 64 l.q.0 l.bit (omega arith) l.invariant.2 in
+    let b = next_bit 64 l.q l.bit (omega arith) l.invariant.2 in
     elim c.if-front-q-le-TOP.branch [
-      | then-front-q-le-TOP w ↦ (omega arith, w.live-is ∙ live_more _ l.q.0 l.live l.bit (omega arith) l.invariant.1 l.invariant.2 w.if-front-q-le-TOP.true, b)
-      | else-front-q-le-TOP w ↦ (omega arith, w.live-is ∙ live_skip _ l.q.0 l.live l.invariant.1 w.if-front-q-le-TOP.false, b)
+      | then-front-q-le-TOP w ↦ (omega arith, w.live-is ∙ live_more _ l.q l.live l.bit (omega arith) l.invariant.1 l.invariant.2 w.if-front-q-le-TOP.true, b)
+      | else-front-q-le-TOP w ↦ (omega arith, w.live-is ∙ live_skip _ l.q l.live l.invariant.1 w.if-front-q-le-TOP.false, b)
     ]
 
 pub returns : goal.returns

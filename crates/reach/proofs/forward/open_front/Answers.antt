@@ -4,4 +4,4 @@ use native.Mathlib.Omega.{arith}
 use Rattle.reach.proofs.forward.open_front.Goals as goal
 
 pub returns : goal.returns
-returns c = opened_is c.requires.0 (omega arith) (blanked_filled _ _ (omega arith) c.blank.ensures) c.strike.ensures
+returns c = rw c.from.ensures (opened_is c.requires.0 (omega arith) (blanked_filled _ _ (omega arith) c.blank.ensures) c.strike.ensures)

@@ -1,6 +1,5 @@
 use Prim.Native.Nat.{◌-◌}
-use mathlib.Core.Path.{sym, ◌∙◌}
-use borrow.Author.Tests.{lt-ltb, le-ltb}
+use mathlib.Core.Path.{sym}
 use lib.Bits.{and_le_r}
 use Rattle.reach.proofs.Sweeping.{joins_here}
 use Rattle.reach.proofs.Living.{looked_none, looked_few, looked_more, looked_end}
@@ -8,7 +7,7 @@ use native.Mathlib.Omega.{arith}
 use Rattle.reach.proofs.forward.support.Goals as goal
 
 pub loop-left-init : goal.loop-left-init
-loop-left-init c = (omega arith, looked_none _ _ _ _ _ _ c.requires.7)
+loop-left-init c = (omega arith, looked_none _ _ _ _ _ _ c.requires.4)
 
 pub overflow_cast-q : goal.overflow_cast-q
 overflow_cast-q c = omega (arith, looked_few _ _ _ _ _ c.loop-left.invariant.1 (omega arith) (omega arith))
@@ -16,11 +15,11 @@ overflow_cast-q c = omega (arith, looked_few _ _ _ _ _ c.loop-left.invariant.1 (
 pub joins_at-requires : goal.joins_at-requires
 joins_at-requires c = let p = c.requires in
     let h = looked_few _ _ _ _ _ c.loop-left.invariant.1 (omega arith) (omega arith) in
-    (p.1, p.2, omega arith, p.5, omega arith, p.4, p.6.low _ h, p.8)
+    (omega arith, p.2, omega arith, p.1, p.3.low _ h, p.5)
 
 pub returns-then-joins_at : goal.returns-then-joins_at
 returns-then-joins_at c = let h = looked_few _ _ _ _ _ c.loop-left.invariant.1 (omega arith) (omega arith) in
-    lt-ltb _ _ h ∙ joins_here _ _ _ _ _ _ h c.joins_at.ensures c.if-joins_at.true
+    joins_here _ _ _ _ _ _ h c.joins_at.ensures c.if-joins_at.true
 
 pub loop-left-smaller : goal.loop-left-smaller
 loop-left-smaller c = omega (arith, and_le_r c.loop-left.left (c.loop-left.left - 1))
@@ -32,5 +31,5 @@ loop-left-preserved c = (
 )
 
 pub returns : goal.returns
-returns c = let n = c.args.states in
-    le-ltb n n (omega arith) ∙ sym (looked_end _ _ _ _ _ {left = c.loop-left.left} (omega arith) c.loop-left.invariant.1)
+returns c =
+    sym (looked_end _ _ _ _ _ {left = c.loop-left.left} (omega arith) c.loop-left.invariant.1)

@@ -4,7 +4,7 @@ use Rattle.reach.proofs.past.raised.Goals as goal
 
 pub returns : goal.returns
 unfolding top
-returns c = c.lesser.ensures
+returns c = c.min.ensures
 
 pub overflow_add-cost : goal.overflow_add-cost
 unfolding top

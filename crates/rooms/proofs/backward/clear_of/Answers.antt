@@ -10,5 +10,5 @@ returns-then-other-eq0 c = λ e. free c.if-other-eq0.true
 pub overflow_add-result : goal.overflow_add-result
 overflow_add-result c = omega (arith, low_fits c.requires.0 c.requires.1)
 
-pub returns : goal.returns
-returns c = λ e. high (leb-true _ _ e)
+pub returns-else-other-eq0 : goal.returns-else-other-eq0
+returns-else-other-eq0 c = λ e. high (leb-true _ _ e)

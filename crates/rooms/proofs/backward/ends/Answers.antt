@@ -1,17 +1,12 @@
-use mathlib.Core.Path.{refl}
-use lib.ListN.{length-set}
 use native.Mathlib.Omega.{arith}
 use Rattle.rooms.proofs.Filling.{filled_none, filled_more, filled_end}
 use Rattle.rooms.proofs.backward.ends.Goals as goal
 
 pub loop-q-init : goal.loop-q-init
-loop-q-init c = (omega arith, refl, filled_none _ _)
+loop-q-init c = filled_none _ _
 
 pub loop-q-preserved : goal.loop-q-preserved
-loop-q-preserved c = let l = c.loop-q.invariant in (omega arith, simp length-set l.1, filled_more _ (omega arith) l.2 c.ending.ensures)
-
-pub shape_of-row : goal.shape_of-row
-shape_of-row c = c.loop-q.invariant.1
+loop-q-preserved c = let l = c.loop-q.invariant in (filled_more _ (omega arith) l c.ending.ensures)
 
 pub returns : goal.returns
-returns c = let l = c.loop-q.invariant in filled_end l.2 l.0 c.loop-q-test.false
+returns c = let l = c.loop-q.invariant in filled_end l (omega arith) (omega arith)

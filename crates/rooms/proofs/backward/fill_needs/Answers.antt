@@ -1,4 +1,4 @@
-use mathlib.Core.Path.{refl, sym, ◌∙◌}
+use mathlib.Core.Path.{refl, ◌∙◌}
 use native.Mathlib.Omega.{arith}
 use Rattle.meaning.specs.Bounds.{top}
 use Rattle.rooms.specs.Tables.{turned, frame}
@@ -20,9 +20,6 @@ loop-i-init c = let p = c.requires.0 in
     let a = c.args in
     let l = c.fill_last in (
       omega arith,
-      l.auto.needs,
-      l.auto.work ∙ p.all_work,
-      omega arith,
       omega arith,
       layers_last (frame (turned a.targets.now a.costs.now) a.states a.values a.accepting) a.masks.now a.limits.now p.all_limits _ _ _ _ _ (omega (arith, l.auto.needs, p.few_states_lem)) l.auto.needs c.least_at.ensures (needed_none a.states refl) l.ensures,
       outside_none _ _ _,
@@ -30,25 +27,15 @@ loop-i-init c = let p = c.requires.0 in
 
 pub lay-span-requires : goal.lay-span-requires
 lay-span-requires c = let l = c.loop-i.invariant in
-    let p = c.requires.0 in
-    (sizes_same p refl refl refl refl (l.2 ∙ sym p.all_work), omega arith, l.3, l.4, l.1, needed_low l.1 l.5.1, layers_low l.5.0, record { none = l.5.1.none }, c.requires.1)
+    let n = c.loop-i-test.array_long in
+    (sizes_same c.requires.0 refl refl refl refl (c.loop-i.auto.work ∙ c.fill_last.auto.work), omega arith, l.0, l.1, n, needed_low n l.2.1, layers_low l.2.0, record { none = l.2.1.none }, c.requires.1)
 
 pub loop-i-preserved : goal.loop-i-preserved
 loop-i-preserved c = let l = c.loop-i.invariant in
-    let y = c.lay-span in (
-      omega arith,
-      y.auto.needs ∙ l.1,
-      y.auto.work ∙ l.2,
-      y.ensures.0,
-      y.ensures.1,
-      lays_down c.args.accepting c.loop-i-test.true y.ensures.2 l.5,
-      outside_on l.6 y.ensures.2.beside,
-    )
-
-pub shape_of-work : goal.shape_of-work
-shape_of-work c = c.loop-i.invariant.2 ∙ sym c.requires.0.all_work
+    let y = c.lay-span.ensures in
+    (y.0, y.1, lays_down c.args.accepting c.loop-i-test.true y.2 l.2, outside_on l.3 y.2.beside)
 
 pub returns : goal.returns
 returns c = let a = c.args in
     let l = c.loop-i.invariant in
-    (layers_end (frame (turned a.targets.now a.costs.now) a.states a.values a.accepting) a.masks.now a.limits.now c.requires.0.all_limits c.loop-i-test.false l.5.0, outside_on (laid_outside (omega arith) c.fill_last.ensures.0) l.6)
+    (layers_end (frame (turned a.targets.now a.costs.now) a.states a.values a.accepting) a.masks.now a.limits.now c.requires.0.all_limits (omega arith) l.2.0, outside_on (laid_outside (omega arith) c.fill_last.ensures.0) l.3)

@@ -5,4 +5,4 @@ pub returns-then-i-eq0 : goal.returns-then-i-eq0
 returns-then-i-eq0 c = least_first _ _ c.if-i-eq0.true
 
 pub returns : goal.returns
-returns c = least_later _ _ _ c.if-i-eq0.false c.less.ensures
+returns c = least_later _ _ _ c.if-i-eq0.false c.saturating_sub.ensures

@@ -1,21 +1,19 @@
-use mathlib.Core.Path.{refl, ◌∙◌}
-use lib.ListN.{length-set}
+use mathlib.Core.Path.{◌∙◌}
 use native.Mathlib.Omega.{arith}
 use Rattle.rooms.proofs.Filling.{filled_none, filled_more, filled_end}
 use Rattle.rooms.proofs.backward.lessen.Goals as goal
+use Rattle.rooms.proofs.backward.lessen.Goals.{then-first, else-first}
+use Rattle.meaning.specs.Bounds.{top}
 
 pub loop-q-init : goal.loop-q-init
-loop-q-init c = (omega arith, refl, filled_none _ _)
-
-pub need_by-need-requires : goal.need_by-need-requires
-need_by-need-requires c = let p = c.requires in (p.1, p.2, p.4, p.5, omega arith, p.3)
+loop-q-init g c = filled_none _ _
 
 pub loop-q-preserved : goal.loop-q-preserved
-loop-q-preserved c = let l = c.loop-q.invariant in
-    (omega arith, simp length-set l.1, filled_more _ (omega arith) l.2 (c.beside.ensures ∙ rw (c.need_by-need.ensures, l.2.left c.loop-q.q.0 (omega arith))))
-
-pub shape_of-row : goal.shape_of-row
-shape_of-row c = c.loop-q.invariant.1
+unfolding top
+loop-q-preserved g c = filled_more _ (omega arith) c.loop-q.invariant (c.least_by.ensures ∙ elim c.if-first.branch [
+  | then-first w ↦ rw (w.was-is, w.if-first.true)
+  | else-first w ↦ rw (w.was-is, w.if-first.false, c.loop-q.invariant.left c.loop-q.q (omega arith))
+])
 
 pub returns : goal.returns
-returns c = let l = c.loop-q.invariant in filled_end l.2 l.0 c.loop-q-test.false
+returns g c = filled_end c.loop-q.invariant (omega arith) (omega arith)

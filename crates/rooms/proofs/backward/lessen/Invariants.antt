@@ -1,14 +1,9 @@
-use Prim.Native.Nat.{ℕ, suc, ◌≤◌, ◌-◌, min}
-use mathlib.Core.Path.{◌≡◌}
+use Prim.Native.Nat.{ℕ, suc}
 use mathlib.Core.Bool.{cond}
-use lib.ListN.{length, get_or}
+use lib.ListN.{get_or}
 use Rattle.meaning.specs.Bounds.{top}
-use Rattle.rooms.specs.Tables.{Filled, turned, asks}
+use Rattle.rooms.specs.Tables.{Filled, turned, numbers_of, least_by}
 use Rattle.rooms.proofs.backward.lessen.Given as goal
 
 abbrev pub invariant-loop-q : goal.invariant-loop-q
-invariant-loop-q l = (l.q.0 ≤ l.states) × (length l.row ≡ length l.initial.row)
-    × Filled (λ (k : ℕ). min (asks (turned l.targets l.costs) l.needs k l.v.0) (cond l.first (suc top) (get_or l.initial.row k 0))) l.q.0 l.initial.row l.row
-
-abbrev pub decreases-loop-q : goal.decreases-loop-q
-decreases-loop-q l = l.states - l.q.0
+invariant-loop-q g l = Filled (λ (k : ℕ). least_by (turned l.targets l.costs) l.needs k (numbers_of l.values) (cond l.first (suc top) (get_or l.initial.row k 0))) l.q l.initial.row l.row

@@ -3,15 +3,14 @@ use Rattle.meaning.specs.Meaning.{arcs_of}
 use Rattle.rules.proofs.Checks.{test_failed, test_passed}
 use Rattle.rooms.proofs.Sizing.{sizes_same, prepares_not, prepares_is}
 use Rattle.rooms.proofs.backward.prepare.Goals as goal
+use Rattle.rooms.proofs.backward.prepare.Goals.{then-not-fits-via-then-not-fits, then-not-fits-via-else-not-fits+then-to-ne-TABLE_SIZE, then-not-fits-via-else-not-fits+else-to-ne-TABLE_SIZE+then-fee-ne-TABLE_SIZE}
 
 pub returns-then-not-fits : goal.returns-then-not-fits
-returns-then-not-fits c = prepares_not (λ s a b. c.fits.ensures.wrong (test_failed refl c.if-not-fits.true) s)
-
-pub returns-then-to-ne-TABLE_SIZE : goal.returns-then-to-ne-TABLE_SIZE
-returns-then-to-ne-TABLE_SIZE c = prepares_not (λ s a b. c.if-to-ne-TABLE_SIZE.true a)
-
-pub returns-then-fee-ne-TABLE_SIZE : goal.returns-then-fee-ne-TABLE_SIZE
-returns-then-fee-ne-TABLE_SIZE c = prepares_not (λ s a b. c.if-fee-ne-TABLE_SIZE.true b)
+returns-then-not-fits c = prepares_not (λ s a b. elim c.then-not-fits.branch [
+  | then-not-fits-via-then-not-fits w ↦ c.fits.ensures.wrong (test_failed refl w.if-not-fits.true) s
+  | then-not-fits-via-else-not-fits+then-to-ne-TABLE_SIZE w ↦ w.if-to-ne-TABLE_SIZE.true a
+  | then-not-fits-via-else-not-fits+else-to-ne-TABLE_SIZE+then-fee-ne-TABLE_SIZE w ↦ w.if-fee-ne-TABLE_SIZE.true b
+])
 
 pub turn-requires : goal.turn-requires
 turn-requires c = let s = c.fits.ensures.right (test_passed refl c.if-not-fits.false) in

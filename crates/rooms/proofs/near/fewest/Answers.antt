@@ -1,16 +1,18 @@
 use mathlib.Core.Path.{refl, sym, ◌∙◌}
+use Prim.Native.Nat.{◌<◌}
 use native.Mathlib.Omega.{arith}
 use Rattle.meaning.specs.Meaning.{arcs_of}
 use Rattle.rules.proofs.Checks.{test_failed, test_passed}
 use Rattle.rooms.specs.Tables.{turned}
 use Rattle.rooms.proofs.Sizing.{plan_same, nears_not, nears_is}
 use Rattle.rooms.proofs.near.fewest.Goals as goal
+use Rattle.rooms.proofs.near.fewest.Goals.{then-not-fits-via-then-not-fits, then-not-fits-via-else-not-fits+then-states-from}
 
 pub returns-then-not-fits : goal.returns-then-not-fits
-returns-then-not-fits c = nears_not (λ s l. c.fits.ensures.1 (test_failed refl c.if-not-fits.true) s)
-
-pub returns-then-states-start : goal.returns-then-states-start
-returns-then-states-start c = nears_not (λ s l. omega (arith, c.if-states-start.true))
+returns-then-not-fits c = nears_not (λ s l. let h : c.args.start.0 < c.args.states = l in elim c.then-not-fits.branch [
+  | then-not-fits-via-then-not-fits w ↦ c.fits.ensures.1 (test_failed refl w.if-not-fits.true) s
+  | then-not-fits-via-else-not-fits+then-states-from w ↦ omega (arith, w.from.ensures, w.if-states-from.true)
+])
 
 pub turn-requires : goal.turn-requires
 turn-requires c = let s = (c.fits.ensures.0 (test_passed refl c.if-not-fits.false)).plain in (s.few_states_lem, s.few_values, s.all_targets, s.all_costs, refl, refl)
@@ -21,7 +23,7 @@ fill_levels-requires c = let s = c.fits.ensures.0 (test_passed refl c.if-not-fit
     let r = c.rank in
     let a = c.args in (
       plan_same s (t.auto.to ∙ sym s.plain.all_targets) (t.auto.fee ∙ sym s.plain.all_costs),
-      omega (arith, c.if-states-start.false),
+      omega arith,
       λ e. record {
         of = arcs_of a.states a.values a.targets.now a.costs.now;
         states = refl;
@@ -34,4 +36,4 @@ fill_levels-requires c = let s = c.fits.ensures.0 (test_passed refl c.if-not-fit
 pub returns : goal.returns
 returns c = let s = c.fits.ensures.0 (test_passed refl c.if-not-fits.false) in
     let t = c.turn in
-    nears_is s (omega (arith, c.if-states-start.false)) (record { net = turned t.new.to t.new.fee; arcs = t.ensures.0; fewest = c.fill_levels.ensures })
+    nears_is (turned t.new.to t.new.fee) s (omega arith) t.ensures.0 c.fill_levels.ensures

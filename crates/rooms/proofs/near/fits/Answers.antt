@@ -2,16 +2,11 @@ use native.Mathlib.Omega.{arith}
 use Rattle.rooms.proofs.Sizing.{plan_not, plan_fits}
 use mathlib.Core.Path.{sym}
 use lib.Seq.{length-take-le}
+use Rattle.std.proofs.lemmas.Grind.{common_steps}
 use Rattle.rooms.proofs.near.fits.Goals as goal
 
 pub returns-then-masks-gt-MOST_PLACES : goal.returns-then-masks-gt-MOST_PLACES
-returns-then-masks-gt-MOST_PLACES c = plan_not (λ s. omega (arith, s.plain.few_places))
-
-pub returns-then-drawn-masks : goal.returns-then-drawn-masks
-returns-then-drawn-masks c = plan_not (λ s. c.if-drawn-masks.true s.all_drawn)
-
-pub returns-then-most-ge-ROWS : goal.returns-then-most-ge-ROWS
-returns-then-most-ge-ROWS c = plan_not (λ s. omega (arith, s.few_changes))
+returns-then-masks-gt-MOST_PLACES c = plan_not (λ s. let p = s.plain in grind (arith, common_steps))
 
 pub returns-then-work-plain : goal.returns-then-work-plain
 returns-then-work-plain c = plan_not (λ s. c.if-work-plain.true s.all_rows)

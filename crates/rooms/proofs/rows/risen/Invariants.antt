@@ -1,4 +1,4 @@
-use Prim.Native.Nat.{suc, ◌+◌, ◌-◌, ◌≤◌, min}
+use Prim.Native.Nat.{suc, ◌+◌, min}
 use mathlib.Core.Bool.{true}
 use lib.ListN.{get_or}
 use Rattle.meaning.specs.Bounds.{top}
@@ -6,7 +6,4 @@ use Rattle.rooms.specs.Tables.{Matches}
 use Rattle.rooms.proofs.rows.risen.Given as goal
 
 abbrev pub invariant-loop-j : goal.invariant-loop-j
-invariant-loop-j l = (l.j ≤ l.count) × Matches (λ k. min (suc top) (get_or l.from k 0 + l.rise)) l.j l.row true
-
-abbrev pub decreases-loop-j : goal.decreases-loop-j
-decreases-loop-j l = l.count - l.j
+invariant-loop-j l = Matches (λ k. min (suc top) (get_or l.from k 0 + l.rise)) l.j l.row true

@@ -1,11 +1,8 @@
-use Prim.Native.Nat.{◌-◌, ◌+◌, ◌≤◌}
+use Prim.Native.Nat.{◌+◌, ◌≤◌}
 use mathlib.Core.Path.{◌≡◌}
 use lib.ListN.{length}
 use Rattle.rooms.proofs.Falling.{Wiped}
 use Rattle.rooms.proofs.rows.wipe.Given as goal
 
 abbrev pub invariant-loop-at : goal.invariant-loop-at
-invariant-loop-at l = (l.at ≤ l.count) × (length l.table ≡ length l.initial.table) × (l.back ≤ l.count) × (l.back + l.count ≡ length l.initial.table) × Wiped l.back l.at l.table
-
-abbrev pub decreases-loop-at : goal.decreases-loop-at
-decreases-loop-at l = l.count - l.at
+invariant-loop-at l = (l.back ≤ l.count) × (l.back + l.count ≡ length l.initial.table) × Wiped l.back l.at l.table

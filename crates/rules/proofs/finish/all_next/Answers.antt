@@ -1,14 +1,7 @@
-use mathlib.Core.Path.{refl}
 use lib.ListN.{length-set}
 use native.Mathlib.Omega.{arith}
-use Rattle.meaning.proofs.Lists.{filled_none, filled_more, filled_end}
+use Rattle.meaning.proofs.Lists.{filled_more}
 use Rattle.rules.proofs.finish.all_next.Goals as goal
 
-pub loop-q-init : goal.loop-q-init
-loop-q-init c = (omega arith, refl, filled_none _ _)
-
 pub loop-q-preserved : goal.loop-q-preserved
-loop-q-preserved c = let l = c.loop-q.invariant in (omega arith, simp length-set l.1, filled_more _ (omega arith) l.2 c.next_of.ensures)
-
-pub returns : goal.returns
-returns c = let l = c.loop-q.invariant in filled_end l.2 l.0 c.loop-q-test.false
+loop-q-preserved c = let l = c.loop-q.invariant in (simp length-set l.0, filled_more _ (omega arith) l.1 c.next_of.ensures)

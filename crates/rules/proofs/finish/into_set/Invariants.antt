@@ -1,10 +1,7 @@
-use Prim.Native.Nat.{◌≤◌, ◌-◌, ◌*◌, ◌%◌, ◌^◌}
+use Prim.Native.Nat.{◌*◌, ◌%◌, ◌^◌}
 use mathlib.Core.Path.{◌≡◌}
 use Rattle.rules.specs.Inner.{into_set}
 use Rattle.rules.proofs.finish.into_set.Given as goal
 
-abbrev pub invariant-loop-at : goal.invariant-loop-at
-invariant-loop-at l = (l.at ≤ l.states) × (l.found ≡ into_set l.next l.set l.at) × (l.bit ≡ 1 * 2 ^ l.at % 2 ^ 64)
-
-abbrev pub decreases-loop-at : goal.decreases-loop-at
-decreases-loop-at l = l.states - l.at
+abbrev pub invariant-loop-to : goal.invariant-loop-to
+invariant-loop-to l = (l.found ≡ into_set l.next l.set l.to-index) × (l.bit ≡ 1 * 2 ^ l.to-index % 2 ^ 64)

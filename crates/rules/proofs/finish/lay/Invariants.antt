@@ -1,4 +1,3 @@
-use Prim.Native.Nat.{◌-◌, ◌≤◌}
 use mathlib.Core.Path.{◌≡◌}
 use mathlib.Core.List.{[]}
 use lib.ListN.{length}
@@ -7,8 +6,6 @@ use Rattle.meaning.specs.Meaning.{rules_of}
 use Rattle.rules.specs.Inner.{finishing}
 use Rattle.rules.proofs.finish.lay.Given as goal
 
-abbrev pub invariant-loop-k : goal.invariant-loop-k
-invariant-loop-k l = (l.k ≤ l.places) × (length l.layers ≡ length l.initial.layers) × (l.set ≡ finishing (rules_of l.states l.values l.targets [] l.accepting) l.k) × Filled (finishing (rules_of l.states l.values l.targets [] l.accepting)) l.k l.initial.layers l.layers
-
-abbrev pub decreases-loop-k : goal.decreases-loop-k
-decreases-loop-k l = l.places - l.k
+abbrev pub invariant-loop-layer : goal.invariant-loop-layer
+invariant-loop-layer l = let f = finishing (rules_of l.arcs.states l.arcs.values l.arcs.targets.now [] l.accepting) in
+    (length l.layers ≡ length l.initial.layers) × (l.set ≡ f l.layer-index) × Filled f l.layer-index l.initial.layers l.layers

@@ -5,4 +5,4 @@ use Rattle.scribe.proofs.lines.put_final.Goals as goal
 
 pub returns : goal.returns
 unfolding line_text
-returns c = wrote_then (omega arith) c.put_word-a.ensures (λ _. c.put_field.ensures)
+returns c = wrote_then (omega arith) c.put_word-a.ensures (λ _. rw c.from.ensures at c.put_field.ensures)

@@ -1,11 +1,5 @@
-use native.Mathlib.Omega.{arith}
-use mathlib.Core.Path.{sym}
-use lib.Seq.{length-take-le}
 use Rattle.session.proofs.Openings.{store_is}
 use Rattle.session.proofs.opening.store.Goals as goal
-
-pub slice_bounds-widen-end-2 : goal.slice_bounds-widen-end-2
-slice_bounds-widen-end-2 c = sym (length-take-le c.args.places c.args.to.now (omega arith))
 
 pub returns : goal.returns
 returns c = store_is c.args.places c.args.masks.now c.args.limits.now c.args.to.now _ c.requires.0 c.requires.1 c.requires.2 c.widen.ensures _ c.copy.ensures

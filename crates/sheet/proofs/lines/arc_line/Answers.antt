@@ -1,61 +1,61 @@
-use mathlib.Core.Path.{sym, ap, ◌∙◌}
+use mathlib.Core.Path.{sym, ◌∙◌}
 use native.Mathlib.Omega.{arith}
-use Rattle.text.specs.Lines.{wrong}
+use Rattle.std.proofs.lemmas.Result.{err_from_is_err_and}
 use Rattle.text.proofs.Judging.{number_right, number_wrong, number_range, field_range, sealed_is}
 use Rattle.sheet.specs.Lines.{read_arc, place}
 use Rattle.sheet.proofs.Judging.{order_as}
 use Rattle.sheet.proofs.lines.arc_line.Goals as goal
 
-pub returns-in_default : goal.returns-in_default
+pub returns-in_err-state : goal.returns-in_err-state
 unfolding read_arc
-returns-in_default c = ap wrong c.fault_of.ensures
-    ∙ sym (number_wrong _ _ _ c.field_at-a.ensures _ c.in_default.not-Value)
+returns-in_err-state c = let p = err_from_is_err_and c.from_residual.result c.from_residual.ensures.1 in rw (p.1, p.2) (sym (number_wrong _ _ _ c.field_at.ensures _ _ c.in_err-state.was))
 
-pub returns-in_default-b : goal.returns-in_default-b
+pub returns-in_err-value : goal.returns-in_err-value
 unfolding read_arc
-returns-in_default-b c = ap wrong c.fault_of-in_default-b.ensures
-    ∙ sym (number_right _ _ _ c.field_at-a.ensures _ _ _ c.in-Value.is
-    ∙ number_wrong _ _ _ c.field_at-b.ensures _ c.in_default-b.not-Value)
+returns-in_err-value c = let p = err_from_is_err_and c.from_residual-in_err-value.result c.from_residual-in_err-value.ensures.1 in rw (p.1, p.2)
+    (sym (number_right _ _ _ c.field_at.ensures _ _ c.in_ok-state.was
+    ∙ number_wrong _ _ _ c.field_at-2.ensures _ _ c.in_err-value.was))
 
-pub returns-in_default-c : goal.returns-in_default-c
+pub returns-in_err-target : goal.returns-in_err-target
 unfolding read_arc
-returns-in_default-c c = ap wrong c.fault_of-in_default-c.ensures
-    ∙ sym (number_right _ _ _ c.field_at-a.ensures _ _ _ c.in-Value.is
-    ∙ number_right _ _ _ c.field_at-b.ensures _ _ _ c.in-Value-b.is
-    ∙ number_wrong _ _ _ c.field_at-c.ensures _ c.in_default-c.not-Value)
+returns-in_err-target c = let p = err_from_is_err_and c.from_residual-in_err-target.result c.from_residual-in_err-target.ensures.1 in rw (p.1, p.2)
+    (sym (number_right _ _ _ c.field_at.ensures _ _ c.in_ok-state.was
+    ∙ number_right _ _ _ c.field_at-2.ensures _ _ c.in_ok-value.was
+    ∙ number_wrong _ _ _ c.field_at-3.ensures _ _ c.in_err-target.was))
 
-pub returns-in_default-n : goal.returns-in_default-n
+pub returns-in_err-cost : goal.returns-in_err-cost
 unfolding read_arc
-returns-in_default-n c = ap wrong c.fault_of-in_default-n.ensures
-    ∙ sym (number_right _ _ _ c.field_at-a.ensures _ _ _ c.in-Value.is
-    ∙ number_right _ _ _ c.field_at-b.ensures _ _ _ c.in-Value-b.is
-    ∙ number_right _ _ _ c.field_at-c.ensures _ _ _ c.in-Value-c.is
-    ∙ number_wrong _ _ _ c.number_at-n.ensures _ c.in_default-n.not-Value)
+returns-in_err-cost c = let p = err_from_is_err_and c.from_residual-in_err-cost.result c.from_residual-in_err-cost.ensures.1 in rw (p.1, p.2)
+    (sym (number_right _ _ _ c.field_at.ensures _ _ c.in_ok-state.was
+    ∙ number_right _ _ _ c.field_at-2.ensures _ _ c.in_ok-value.was
+    ∙ number_right _ _ _ c.field_at-3.ensures _ _ c.in_ok-target.was
+    ∙ number_wrong _ _ _ (rw c.from.ensures at c.number_at.ensures) _ _ c.in_err-cost.was))
 
 pub overflow_cast-q : goal.overflow_cast-q
-overflow_cast-q c = omega (arith, field_range _ _ _ _ _ c.field_at-a.ensures _ _ c.in-Value.is, c.requires.1)
+overflow_cast-q c = omega (arith, field_range _ _ _ _ _ c.field_at.ensures _ c.in_ok-state.was, c.requires.1)
 
 pub overflow_cast-v : goal.overflow_cast-v
-overflow_cast-v c = omega (arith, field_range _ _ _ _ _ c.field_at-b.ensures _ _ c.in-Value-b.is, c.requires.1)
+overflow_cast-v c = omega (arith, field_range _ _ _ _ _ c.field_at-2.ensures _ c.in_ok-value.was, c.requires.1)
 
 pub overflow_cast-result : goal.overflow_cast-result
-overflow_cast-result c = omega (arith, field_range _ _ _ _ _ c.field_at-c.ensures _ _ c.in-Value-c.is, c.requires.1)
+overflow_cast-result c = omega (arith, field_range _ _ _ _ _ c.field_at-3.ensures _ c.in_ok-target.was, c.requires.1)
 
-pub overflow_cast-result-in-Fine : goal.overflow_cast-result-in-Fine
-overflow_cast-result-in-Fine c = omega (arith, number_range _ _ _ _ _ c.number_at-n.ensures _ _ c.in-Value-n.is)
+pub overflow_cast-result-2 : goal.overflow_cast-result-2
+overflow_cast-result-2 c = omega (arith, number_range _ _ _ _ _ c.number_at.ensures _ c.in_ok-cost.was, c.from.ensures)
 
-pub returns-in-Fine : goal.returns-in-Fine
+pub returns-in_err-close_at : goal.returns-in_err-close_at
 unfolding read_arc place
-returns-in-Fine c = sym (number_right _ _ _ c.field_at-a.ensures _ _ _ c.in-Value.is
-    ∙ number_right _ _ _ c.field_at-b.ensures _ _ _ c.in-Value-b.is
-    ∙ number_right _ _ _ c.field_at-c.ensures _ _ _ c.in-Value-c.is
-    ∙ number_right _ _ _ c.number_at-n.ensures _ _ _ c.in-Value-n.is
-    ∙ sealed_is _ _ _ _ (order_as _ _ _ _ _ c.arc_place.ensures c.close_at-e.ensures) c.in-Fine.is)
+returns-in_err-close_at c = let p = err_from_is_err_and c.from_residual-in_err-close_at.result c.from_residual-in_err-close_at.ensures.1 in rw (p.1, p.2)
+    (sym (number_right _ _ _ c.field_at.ensures _ _ c.in_ok-state.was
+    ∙ number_right _ _ _ c.field_at-2.ensures _ _ c.in_ok-value.was
+    ∙ number_right _ _ _ c.field_at-3.ensures _ _ c.in_ok-target.was
+    ∙ number_right _ _ _ (rw c.from.ensures at c.number_at.ensures) _ _ c.in_ok-cost.was
+    ∙ sealed_is _ _ _ _ (order_as _ _ _ _ _ c.arc_place.ensures c.close_at.ensures) c.in_err-close_at.was))
 
-pub returns-in-Faulty : goal.returns-in-Faulty
+pub returns : goal.returns
 unfolding read_arc place
-returns-in-Faulty c = sym (number_right _ _ _ c.field_at-a.ensures _ _ _ c.in-Value.is
-    ∙ number_right _ _ _ c.field_at-b.ensures _ _ _ c.in-Value-b.is
-    ∙ number_right _ _ _ c.field_at-c.ensures _ _ _ c.in-Value-c.is
-    ∙ number_right _ _ _ c.number_at-n.ensures _ _ _ c.in-Value-n.is
-    ∙ sealed_is _ _ _ _ (order_as _ _ _ _ _ c.arc_place.ensures c.close_at-e.ensures) c.in-Faulty.is)
+returns c = sym (number_right _ _ _ c.field_at.ensures _ _ c.in_ok-state.was
+    ∙ number_right _ _ _ c.field_at-2.ensures _ _ c.in_ok-value.was
+    ∙ number_right _ _ _ c.field_at-3.ensures _ _ c.in_ok-target.was
+    ∙ number_right _ _ _ (rw c.from.ensures at c.number_at.ensures) _ _ c.in_ok-cost.was
+    ∙ sealed_is _ _ _ _ (order_as _ _ _ _ _ c.arc_place.ensures c.close_at.ensures) c.in_ok-close_at.was)

@@ -1,19 +1,13 @@
 use native.Mathlib.Omega.{arith}
-use mathlib.Core.Path.{sym, ◌∙◌}
-use Rattle.text.specs.declared.bytes.Sort.TheVariants.{Tab, Feed}
-use Rattle.text.proofs.Scans.{ends_end, ends_tab, ends_feed, ends_not, tab_sort, feed_sort, sort_tab, sort_feed, other_tag}
+use mathlib.Core.Path.{◌∙◌}
+use Rattle.text.proofs.Scans.{ends_end, ends_tab, ends_other, tab_sort, sort_same, sort_other}
 use Rattle.text.proofs.numbers.field_ends.Goals as goal
 
 pub returns-then-end-line : goal.returns-then-end-line
 returns-then-end-line c = ends_end c.args.line.now c.args.end (omega arith)
 
-pub returns-in-Tab : goal.returns-in-Tab
-returns-in-Tab c = ends_tab c.args.line.now c.args.end (omega arith) (tab_sort _ (sym c.sort_of-c.ensures ∙ c.in-Tab.is))
+pub returns-then-eq : goal.returns-then-eq
+returns-then-eq c = c.if-eq.true ∙ ends_tab c.args.line.now c.args.end (omega arith) (tab_sort _ (sort_same _ _ _ _ c.sort_of-sort.ensures c.eq.ensures c.if-eq.true))
 
-pub returns-in-Feed : goal.returns-in-Feed
-returns-in-Feed c = ends_feed c.args.line.now c.args.end (omega arith) (feed_sort _ (sym c.sort_of-c.ensures ∙ c.in-Feed.is))
-
-pub returns-in_default : goal.returns-in_default
-returns-in_default c = ends_not c.args.line.now c.args.end (omega arith)
-    (λ e. other_tag _ c.sort_of-c.result Tab c.sort_of-c.ensures c.in_default.not-Tab (sort_tab _ e))
-    (λ e. other_tag _ c.sort_of-c.result Feed c.sort_of-c.ensures c.in_default.not-Feed (sort_feed _ e))
+pub returns-else-eq : goal.returns-else-eq
+returns-else-eq c = ends_other c.args.line.now c.args.end (omega arith) (sort_other _ _ _ _ c.sort_of-sort.ensures c.eq.ensures c.if-eq.false) _ _ c.sort_of-sort.ensures c.eq-else-eq.ensures

@@ -1,17 +1,17 @@
 use native.Mathlib.Omega.{arith}
-use mathlib.Core.Path.{sym, ◌∙◌}
-use Rattle.text.specs.declared.bytes.Sort.TheVariants.{Digit}
-use Rattle.text.proofs.Scans.{other_tag, plain_at_end, plain_at_other, plain_at_lead, plain_at_zero}
+use Rattle.text.proofs.Scans.{sort_is, sort_not, plain_at_end, plain_at_other, plain_at_lead, plain_at_zero}
 use Rattle.text.proofs.numbers.plain_at.Goals as goal
+use Rattle.text.proofs.numbers.plain_at.Goals.{then-at-line-via-then-at-line, then-at-line-via-else-at-line+then-ne}
 
 pub returns-then-at-line : goal.returns-then-at-line
-returns-then-at-line c = plain_at_end c.args.line.now c.args.at (omega arith)
+returns-then-at-line c =
+    elim c.then-at-line.branch [
+      | then-at-line-via-then-at-line w ↦ plain_at_end c.args.line.now c.args.at (omega arith)
+      | then-at-line-via-else-at-line+then-ne w ↦ plain_at_other c.args.line.now c.args.at (omega arith) (sort_not _ _ _ _ w.sort_of.ensures w.ne.ensures w.if-ne.true)
+    ]
 
-pub returns-then-b-ne48 : goal.returns-then-b-ne48
-returns-then-b-ne48 c = plain_at_lead c.args.line.now c.args.at (omega arith) (sym c.sort_of-c.ensures ∙ c.in-Digit.is) c.if-b-ne48.true
+pub returns-then-line-at-ne48 : goal.returns-then-line-at-ne48
+returns-then-line-at-ne48 c = plain_at_lead c.args.line.now c.args.at (omega arith) (sort_is _ _ _ _ c.sort_of.ensures c.ne.ensures c.if-ne.false) c.if-line-at-ne48.true
 
-pub returns-else-b-ne48 : goal.returns-else-b-ne48
-returns-else-b-ne48 c = plain_at_zero c.args.line.now c.args.at _ c.requires (omega arith) (sym c.sort_of-c.ensures ∙ c.in-Digit.is) c.if-b-ne48.false
-
-pub returns-in_default : goal.returns-in_default
-returns-in_default c = plain_at_other c.args.line.now c.args.at (omega arith) (other_tag _ c.sort_of-c.result Digit c.sort_of-c.ensures c.in_default.not-Digit)
+pub returns-else-line-at-ne48 : goal.returns-else-line-at-ne48
+returns-else-line-at-ne48 c = plain_at_zero c.args.line.now c.args.at _ c.requires (omega arith) (sort_is _ _ _ _ c.sort_of.ensures c.ne.ensures c.if-ne.false) c.if-line-at-ne48.false

@@ -1,5 +1,0 @@
-use Rattle.std.proofs.Common.{refl}
-use Rattle.calls.proofs.cells.fill.Goals as goal
-
-pub loop-at-init : goal.loop-at-init
-loop-at-init c = refl

@@ -1,8 +1,0 @@
-use Rattle.std.proofs.Common.{◌≡◌, ◌-◌, length}
-use Rattle.calls.proofs.cells.fill.Given as goal
-
-abbrev pub invariant-loop-at : goal.invariant-loop-at
-invariant-loop-at l = length l.memory ≡ length l.initial.memory
-
-abbrev pub decreases-loop-at : goal.decreases-loop-at
-decreases-loop-at l = l.room - l.at

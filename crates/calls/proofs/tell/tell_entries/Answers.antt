@@ -1,7 +1,0 @@
-use Rattle.calls.proofs.tell.tell_entries.Goals as goal
-
-pub loop-at-init : goal.loop-at-init
-loop-at-init c = tt
-
-pub loop-at-preserved : goal.loop-at-preserved
-loop-at-preserved c = tt
