@@ -142,7 +142,3 @@ module _ (text : List ℕ) (v : ℕ) (ms ls : List ℕ) (j : Job) (ms2 ls2 : Lis
     g.job ∙ (ap (with_decisions g.so_far) (ap (λ (s : List ℕ). read_decisions (length ms) v number (lines_end - number) (lines s)) (drop_of_length-le text {i = at} h) ∙ no_lines (length ms) v number (lines_end - number)) ∙ ap (days (length ms)) (append-nil g.so_far)),
     g.standing,
   )
-
--- a place below n is inside masks and limits of that length
-pub asked_fits : (a : Asked) (n l : ℕ) → l ≡ n → AskedIn a n n → AskedIn a n l
-asked_fits a n l e h = rw e h

@@ -1,5 +1,5 @@
 // A job for a rule set that was read: its lines are taken, then it is filtered or mended, and printed.
-ghost use Rattle.std.specs.Prelude.{◌≡◌, true, ◌≤◌, length, drop};
+ghost use Rattle.std.specs.Prelude.{◌≤◌, length, drop};
 ghost use Rattle.meaning.specs.Bounds.{most_values};
 ghost use Rattle.rules.specs.Checks.{rules_in};
 ghost use Rattle.text.specs.Lines.{lines};

@@ -2,7 +2,7 @@
 use mathlib.Core.Path.{◌≡◌, refl, sym, ap, ◌∙◌}
 use mathlib.Core.Bool.{true, ◌&&◌}
 use mathlib.Core.List.{List, [], ◌∷◌, ◌++◌, append-nil}
-use Prim.Native.Nat.{ℕ, ◌+◌, ◌*◌, ◌^◌, ◌-◌, ◌≤◌, ◌<◌, min}
+use Prim.Native.Nat.{ℕ, ◌+◌, ◌^◌, ◌-◌, ◌<◌, min}
 use native.Mathlib.Omega.{arith}
 use native.Mathlib.Numerals.{add-one}
 use Rattle.kinds.specs.Bits.{width, bit, mask_of}
@@ -12,10 +12,10 @@ use borrow.Author.Tests.{eq-eqb, ne_eqb}
 use Rattle.meaning.specs.Meaning.{Place, places, decides}
 use Rattle.meaning.proofs.Decisions.{decides_append, keep_stored, limit_stored}
 use Rattle.ledger.specs.Sessions.{Entry, Opening, opening, decision, mark, standing, places_by}
-use Rattle.ledger.specs.Layout.{keep_kind, limit_kind, row_size, rows_size, head_size, opening_place, held_size, shown_size}
+use Rattle.ledger.specs.Layout.{keep_kind, limit_kind, rows_size, head_size, opening_place, shown_size}
 use Rattle.ledger.specs.Memory.{all_below, count_of, rows_of, entry_of, entry_at, entries_at, entries_of, opening_at, opening_of, held_in}
 use Rattle.ledger.proofs.Numbers.{tail_is, part_long}
-use Rattle.machine.specs.Inner.{RowSafe, RowsSafe, Replayable}
+use Rattle.machine.specs.Inner.{RowsSafe, Replayable}
 
 module _ (k p x : ℕ) (ms ls : List ℕ) where
   pub apply_keep : k ≡ keep_kind → get_or ms p 0 < 2 ^ width → x < 2 ^ width → (y : ℕ) → y ≡ mask_of (λ u. bit (get_or ms p 0) u && bit x u) width
@@ -50,15 +50,6 @@ module _ (s : List ℕ) (o : List Place) where
       f ∙ ap (λ (ps : List Place). decides ps (standing (entry_at s i ∷ []))) e
       ∙ sym (decides_append o (standing (entries_at i s)) (standing (entry_at s i ∷ [])))
       ∙ ap (decides o) (sym (standing_more (entry_at s i) (entries_at i s)) ∙ ap (λ (j : ℕ). standing (entries_at j s)) (sym (add-one i)))
-
--- one row of those that are safe
-pub safe_at : (k i a a' b b' : ℕ) (s : List ℕ) → RowsSafe k s a b → i < k → a' ≡ a → b' ≡ b
-    → RowSafe (get_or s (i * row_size) 0) (get_or s (i * row_size + 1) 0) (get_or s (i * row_size + 2) 0) a' b'
-safe_at k i a a' b b' s r h f g = rw (f, g) (r.at i h)
-
--- what is held, behind what is shown
-pub front_inside : (n : ℕ) (m : List ℕ) → length (held_in n m) ≡ held_size n → shown_size n ≤ length m
-front_inside n m e = omega (arith, length-drop (shown_size n) m)
 
 module _ (n : ℕ) (m : List ℕ) (r : Replayable n (held_in n m)) where
   abbrev part : List ℕ

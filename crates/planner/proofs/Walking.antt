@@ -15,10 +15,9 @@ use borrow.Author.Tests.{ltb-true, lt-ltb, le-ltb}
 use Rattle.kinds.specs.Bits.{bit}
 use Rattle.meaning.specs.Meaning.{Arcs, Rules, target, cost, has_arc, Place, place, places, allowed, rosters}
 use Rattle.meaning.specs.Lists.{those}
-use Rattle.meaning.specs.Bounds.{most_states, most_values, table_size, top}
+use Rattle.meaning.specs.Bounds.{top}
 use Rattle.meaning.proofs.Lists.{map_two, map_all}
 use Rattle.meaning.proofs.Members.{length_places}
-use Rattle.rules.proofs.Checks.{arc_place}
 use Rattle.rooms.specs.Tables.{Net, frame, capped, before}
 use Rattle.rooms.specs.Changes.{near_room, near_layer}
 use Rattle.rooms.proofs.Layering.{needed_rooms, drop_places, drop_all}
@@ -184,7 +183,3 @@ module _ (a : Arcs) (work : List ℕ) (i m d q s left v : ℕ) where
       takes_at h {g} f e =
           let z : suc left - differs v d ≡ suc g = omega arith in
           rw (has, ← arc, lt-ltb (get_or a.targets at 0) a.states leads, z, e)
-
--- where an arc stands is in the tables
-pub arc_in_lem : {qs vs q v at : ℕ} → qs ≤ most_states → vs ≤ most_values → q < qs → v < vs → at ≡ q * vs + v → at < table_size
-arc_in_lem {qs} {vs} {q} {v} h k l m e = rw e (arc_place {q = q} {v = vs} {u = v} (omega arith) k m)

@@ -11,7 +11,6 @@ use Rattle.ledger.specs.Layout.{most_decisions, most_marks, most_entries, row_si
 use Rattle.ledger.specs.Memory.{row_right, count_of, entry_of, entries_of, opening_of, held_of, rows, kind_of, place_of, amount_of, Held}
 use Rattle.ledger.proofs.Numbers.{and_both}
 use Rattle.ledger.proofs.Image.{one_each, count_all, rows_length, row_back, entry_row, reads_back, reads_within}
-use Rattle.ledger.proofs.Entries.{one_mark}
 use Rattle.session.specs.Inner.{pushed}
 
 -- room for one more entry
@@ -20,9 +19,6 @@ pub record Addable (n q v start k p x : ℕ) (l : List ℕ) : Type 0 where
   pub row : row_right n v k p x ≡ true
   pub few : decisions (entry_of k p x ∷ entries_of l) ≤ most_decisions
   pub open_few : marks (entry_of k p x ∷ entries_of l) ≤ most_marks
-
-pub mark_small : (s k : ℕ) → ((p x : ℕ) → s ≡ is_mark (entry_of k p x)) → s ≤ 1
-mark_small s k f = omega (arith, f 0 0, one_mark (entry_of k 0 0))
 
 pub pushed_is : (k p x s : ℕ) (l : List ℕ) → ((p x : ℕ) → s ≡ is_mark (entry_of k p x))
     → set (set (set (set (set l (head_size + (get_or l 4 0 + get_or l 5 0) * row_size) k) (head_size + (get_or l 4 0 + get_or l 5 0) * row_size + 1) p)

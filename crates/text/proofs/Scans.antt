@@ -104,9 +104,6 @@ pub record Running (s : List ℕ) (at cap i v : ℕ) : Type 0 where
   pub after : past (drop at s) ≡ past (drop i s)
   pub val : min (value v (digits (drop i s))) (cap + 1) ≡ min (value 0 (digits (drop at s))) (cap + 1)
 
-pub running_start : (s : List ℕ) (at cap : ℕ) → at ≤ length s → Running s at cap at 0
-running_start s at cap h = record { low = omega arith; high = h; after = refl; val = refl }
-
 pub running_more : (s : List ℕ) (at cap i v w : ℕ) → i < length s → 48 ≤ get_or s i 0 → get_or s i 0 ≤ 57 → Running s at cap i v
     → ((v ≤ cap) × (w ≡ v * 10 + (get_or s i 0 - 48))) ⊎ ((cap < v) × (w ≡ v)) → Running s at cap (i + 1) w
 unfolding value
