@@ -18,7 +18,8 @@ use Rattle.kinds.proofs.Bits.{bit_test}
 use Rattle.patterns.specs.Places.{unions}
 use Rattle.compositor.specs.Inner.{unions_of, set_by, onward_by, list_size, meet_in, meets_in}
 use Rattle.numbering.specs.Numbering.{is_in, meet, meets, met, row_of}
-use Rattle.numbering.proofs.Numbering.{met_stays, met_more}
+use Rattle.numbering.proofs.Numbering.{Grown, grown_refl, grown_trans, met_grown, met_stays, met_more}
+use Rattle.numbering.proofs.Order.{grown_take}
 
 pub pick_yes : (c i f : ℕ) → bit_and (c / 2 ^ i) 1 ≡ 1 → f ≡ cond (bit c i) f 0
 pick_yes c i f h = rw (sym (bit_test c i) ∙ eq-eqb (bit_and (c / 2 ^ i) 1) 1 h)
@@ -101,3 +102,15 @@ module _ (next : ℕ → ℕ → ℕ) (vs : ℕ) where
       let l = ap length e in
       let j : (most_states - at) + at ≡ most_states = omega arith in
       e ∙ ap (take list_size) (sym (met_stays next vs 0 at (most_states - at) (omega arith))) ∙ ap (λ (i : ℕ). take list_size (met next vs 0 i)) j
+
+  grown_by : (k j : ℕ) → Grown (met next vs 0 k) (met next vs 0 (j + k))
+  grown_by k zero = rw (zero-add k) (grown_refl (met next vs 0 k))
+  grown_by k (suc j) = let q : suc j + k ≡ suc (j + k) = omega arith in rw q (grown_trans (grown_by k j) (met_grown next vs 0 (j + k)))
+
+  -- there are more than a sheet has states: whatever is still looked at, the list's beginning stays
+  pub explore_full : (at : ℕ) (cs : List ℕ) → at < most_states → most_states < length cs → cs ≡ take list_size (met next vs 0 at) → cs ≡ take list_size (met next vs 0 most_states)
+  explore_full at cs k h e =
+      let d = length-take list_size (met next vs 0 at) in
+      let l = ap length e in
+      let j : (most_states - at) + at ≡ most_states = omega arith in
+      e ∙ sym (grown_take list_size (grown_by at (most_states - at)) (omega arith)) ∙ ap (λ (i : ℕ). take list_size (met next vs 0 i)) j

@@ -7,6 +7,8 @@ ghost use Rattle.compositor.specs.Inner.{onward_in, ends_by};
 
 use crate::met::Met;
 use crate::states::Automaton;
+use kinds::{State, Value};
+use rules::arcs::arc_at;
 
 // Writes the targets of one state, from `at` on: by place, since the law is about places, and a zip would say no more.
 fn put_row(targets: &mut [u8], at: usize, met: &Met, row: &[u32])
@@ -25,7 +27,8 @@ pub(crate) fn fill(targets: &mut [u8], values: usize, automaton: &Automaton, met
 {
     for (q, c) in met.configurations().iter().enumerate() {
         let row = automaton.onward_row(values, *c);
-        put_row(targets, q * values, met, &row[..values]);
+        let at = arc_at(State(q as u8), Value(0), values as u8);
+        put_row(targets, at, met, &row[..values]);
     }
 }
 

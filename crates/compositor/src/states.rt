@@ -75,7 +75,11 @@ impl Automaton {
     {
         let mut met = Met::start();
         for at in 0..bounds::MOST_STATES {
-            if met.configurations().len() <= at {
+            let count = met.configurations().len();
+            if count <= at {
+                return met;
+            }
+            if bounds::MOST_STATES < count {
                 return met;
             }
             let row = self.onward_row(values, met.configurations()[at]);
