@@ -79,6 +79,7 @@ impl Automaton {
             if count <= at {
                 return met;
             }
+            // the 65th decides, whatever else would be met
             if bounds::MOST_STATES < count {
                 return met;
             }
