@@ -48,7 +48,7 @@ pub(crate) fn turn(
     ensures { Same (arcs_of states values targets.now costs.now) values (turned to.new fee.new) × Outside states values to.old to.new × Outside states values fee.old fee.new }
 {
     for v in 0..values {
-        let at = v * bounds::MOST_STATES;
+        let at = turned_at(State(0), Value(v as u8));
         let end = at + bounds::MOST_STATES;
         turn_value(
             states,

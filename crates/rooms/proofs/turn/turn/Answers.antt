@@ -1,4 +1,5 @@
-use mathlib.Core.Path.{refl}
+use mathlib.Core.Path.{◌≡◌}
+use Prim.Native.Nat.{◌*◌}
 use lib.ListN.{length-take, length-drop}
 use Rattle.rooms.proofs.Filling.{laid_put}
 use Rattle.rooms.proofs.Turning.{turned_none, turned_more, turned_end}
@@ -16,7 +17,8 @@ pub loop-v-preserved : goal.loop-v-preserved
 loop-v-preserved c = let l = c.loop-v in
     let t = c.turn_value in
     let h = c.requires.0 in
-    turned_more h l.invariant (laid_put l.v _ l.to _ h refl (omega arith) t.auto.to t.ensures.0) (laid_put l.v _ l.fee _ h refl (omega arith) t.auto.fee t.ensures.1)
+    let e : c.turned_at-at.result ≡ l.v * 64 = omega (arith, c.turned_at-at.ensures) in
+    turned_more h l.invariant (laid_put l.v _ l.to _ h e (omega arith) t.auto.to t.ensures.0) (laid_put l.v _ l.fee _ h e (omega arith) t.auto.fee t.ensures.1)
 
 pub returns : goal.returns
 returns c = turned_end (omega arith) (omega arith) c.loop-v.invariant
