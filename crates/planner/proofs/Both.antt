@@ -1,17 +1,19 @@
 -- The whole planner: the table with the fewest changes, and the walk.
-use mathlib.Core.Path.{◌≡◌, refl, sym, ◌∙◌}
+use mathlib.Core.Path.{◌≡◌, refl, sym, ap, ◌∙◌}
 use mathlib.Core.List.{List}
 use mathlib.Core.List.{Memᴰ as In}
 use Prim.Native.Nat.{ℕ, suc, ◌-◌, ◌≤◌, ◌<◌, min}
 use native.Mathlib.Omega.{arith}
 use native.Mathlib.Decide.{dec_lt}
 use lib.ListN.{length, length-take}
-use Rattle.std.specs.Prelude.{None, Some}
+use Rattle.std.specs.Prelude.{Option, None, Some, Result, Ok, Err}
+use Rattle.std.specs.Result.{result_unwrap_or}
 use Rattle.meaning.specs.Meaning.{arcs_of, rules_of, places, rosters}
 use Rattle.meaning.specs.Bounds.{top}
 use Rattle.meaning.proofs.Members.{roster_in, length_places}
 use Rattle.rules.specs.Answers.{zeros}
-use Rattle.rooms.specs.Changes.{near_layer, PlanSizes, Nears}
+use Rattle.rooms.specs.declared.near.Misfit.{Misfit}
+use Rattle.rooms.specs.Changes.{near_layer, PlanSizes, Nears, NearRuns}
 use Rattle.mending.specs.Mending.{changes}
 use Rattle.mending.proofs.Nearest.{mended_first, mended_none}
 use Rattle.planner.specs.Inner.{fewer, room_at, Meant, Walks, Mends}
@@ -36,6 +38,12 @@ ready_filled {ms = ms} {now = now} r e h = record {
   few_changes = omega (arith, r.few_changes);
   all_rows = e ∙ r.all_rows;
 }
+
+-- where the sizes are right, what is told is a number or none
+pub told_ok : {qs vs accepting start spent k : ℕ} {t c ms ls ds work work' : List ℕ} {x y : Option ℕ} (r : Result (Option ℕ) Misfit) → NearRuns qs vs t c accepting start spent ms ls ds k work work' r
+    → PlanSizes qs vs t c ms ls ds k work → start < qs → x ≡ result_unwrap_or r None → x ≡ y → r ≡ Ok y
+told_ok (Ok z) n s h e d = ap Ok (sym e ∙ d)
+told_ok (Err z) n s h e d = absurd (n.fits s h refl)
 
 module _ {qs vs : ℕ} {t c ms ls ds : List ℕ} {k : ℕ} {work : List ℕ} (sizes : PlanSizes qs vs t c ms ls ds k work) (accepting start spent : ℕ) {mid : List ℕ} {made : ℕ} (hs : start < qs)
     (nears : Nears qs vs t c accepting start spent ms ls ds k work mid made) where

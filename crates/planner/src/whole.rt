@@ -26,7 +26,7 @@ pub(crate) fn mend_from(
     ensures { Mends (rosters (rules_in rules.now) rules.now.size.start.0 spent (places masks.now limits.now)) drawn.now most roster.old roster.new work.old work.new result }
 {
     let size = rules.size;
-    let found = near::fewest(
+    let counted = near::fewest(
         size.states,
         size.values,
         rules.targets,
@@ -40,6 +40,8 @@ pub(crate) fn mend_from(
         most,
         work,
     );
+    // no size is wrong
+    let found = counted.unwrap_or(None);
     if let Some(made) = found {
         walk::walk(rules, spent, masks, drawn, made, work, roster);
     }

@@ -1,8 +1,10 @@
 -- The sizes of what the passes are lent.
-use mathlib.Core.Path.{◌≡◌, refl, sym, ◌∙◌}
+use mathlib.Core.Path.{◌≡◌, refl, sym, ap, ◌∙◌}
 use mathlib.Core.Bool.{Bool, true, false, false≢true}
 use mathlib.Core.List.{List}
-use Rattle.std.proofs.Common.{Option, None}
+use Rattle.std.proofs.Common.{Option, Ok, Err}
+use Rattle.std.specs.Result.{is_ok}
+use Rattle.std.proofs.lemmas.Result.{IfOk-at_ok}
 use Prim.Native.Nat.{ℕ, ◌≤◌, ◌<◌}
 use Rattle.meaning.specs.Meaning.{arcs_of}
 use native.Mathlib.Omega.{arith}
@@ -91,14 +93,15 @@ plan_right qs vs t c ms ls ds k work =
     go (yes a) (yes b) (yes d) (no e) = no (λ s. e s.all_rows)
 
 pub nears_not : {qs vs accepting start spent k : ℕ} {t c ms ls ds work : List ℕ} → (PlanSizes qs vs t c ms ls ds k work → start < qs → ⊥)
-    → NearRuns qs vs t c accepting start spent ms ls ds k work work None
-nears_not h = record { some = λ s l. absurd (h s l); none = λ s l. absurd (h s l); wrong = λ e. (refl, refl) }
+    → NearRuns qs vs t c accepting start spent ms ls ds k work work (Err (record {}))
+nears_not h = record { some = λ s l. absurd (h s l); none = λ s l. absurd (h s l); fits = λ s l e. h s l; wrong = λ e. (refl, refl) }
 
 pub nears_is : {qs vs accepting start spent k : ℕ} {t c ms ls ds work work' : List ℕ} {found : Option ℕ} (net : Net) → PlanSizes qs vs t c ms ls ds k work → start < qs
     → Same (arcs_of qs vs t c) vs net → Finds (frame net qs vs accepting) ds ms ls start spent k work work' found
-    → NearRuns qs vs t c accepting start spent ms ls ds k work work' found
-nears_is net s l a f = record {
-  some = λ h o j e. let y = f.some j e in (y.0, record { net = net; arcs = a; fewest = y.1 });
-  none = λ h o e. record { net = net; arcs = a; fewest = f.none e };
+    → NearRuns qs vs t c accepting start spent ms ls ds k work work' (Ok found)
+nears_is {found = found} net s l a f = record {
+  some = λ h o j e. let y = f.some j (IfOk-at_ok (λ z. found ≡ z) e refl) in (y.0, record { net = net; arcs = a; fewest = y.1 });
+  none = λ h o e. record { net = net; arcs = a; fewest = f.none (IfOk-at_ok (λ z. found ≡ z) e refl) };
+  fits = λ h o e. false≢true (sym (ap is_ok e));
   wrong = λ h. absurd (h s l);
 }

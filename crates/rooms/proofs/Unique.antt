@@ -4,7 +4,7 @@ use mathlib.Core.Path.{◌≡◌, refl, sym, ap, subst, ◌∙◌}
 use mathlib.Core.Bool.{Bool, true, false}
 use mathlib.Core.List.{List}
 use mathlib.Core.Logic.{◌⊎◌, inl, inr}
-use Rattle.std.proofs.Common.{Option, Some, None}
+use Rattle.std.proofs.Common.{Option, Some, None, Result, Ok, Err}
 use Prim.Native.Nat.{ℕ, suc, ◌+◌, ◌*◌, ◌-◌, ◌/◌, ◌%◌, ◌≤◌, ◌<◌, min}
 use native.Mathlib.Omega.{arith}
 use native.Mathlib.Decide.{dec_le, dec_lt}
@@ -13,6 +13,7 @@ use lib.Seq.{ext_get_or}
 use Rattle.meaning.specs.Bounds.{most_states, plan_size}
 use Rattle.meaning.specs.Meaning.{rules_of, places}
 use Rattle.rules.specs.Answers.{zeros}
+use Rattle.rooms.specs.declared.near.Misfit.{Misfit}
 use Rattle.rooms.specs.Tables.{blanked, copied, turned, frame, need, capped, before, layer, Outside, Prepared, Prepares}
 use Rattle.rooms.specs.Changes.{near_layer, row_for, PlanSizes, Nears, NearRuns}
 use Rattle.rooms.proofs.Rooms.{room_same}
@@ -107,12 +108,13 @@ module _ (qs vs : ℕ) (ts cs : List ℕ) (accepting start spent : ℕ) (ms ls d
           subst (λ (z : ℕ). get_or a z 0 ≡ get_or b z 0) d (go (z / 512) (z / 64 % 8) (z % 64) (omega arith) (omega arith) (omega arith) (dec_le (z / 64 % 8) (min x k)) (dec_lt (z % 64) qs))
 
   -- the number of changes of an outcome
-  made_of : {a : List ℕ} (x : Option ℕ) → NearRuns qs vs ts cs accepting start spent ms ls ds k work a x → PlanSizes qs vs ts cs ms ls ds k work → start < qs
-      → (m : ℕ) × Nears qs vs ts cs accepting start spent ms ls ds k work a m × (((m ≤ k) × (x ≡ Some m)) ⊎ ((k < m) × (x ≡ None)))
-  made_of (Some j) r p q = let u = r.some p q j refl in (j, u.1, inl (u.0, refl))
-  made_of None r p q = (suc k, r.none p q refl, inr (omega arith, refl))
+  made_of : {a : List ℕ} (x : Result (Option ℕ) Misfit) → NearRuns qs vs ts cs accepting start spent ms ls ds k work a x → PlanSizes qs vs ts cs ms ls ds k work → start < qs
+      → (m : ℕ) × Nears qs vs ts cs accepting start spent ms ls ds k work a m × (((m ≤ k) × (x ≡ Ok (Some m))) ⊎ ((k < m) × (x ≡ Ok None)))
+  made_of (Ok (Some j)) r p q = let u = r.some p q j refl in (j, u.1, inl (u.0, refl))
+  made_of (Ok None) r p q = (suc k, r.none p q refl, inr (omega arith, refl))
+  made_of (Err e) r p q = absurd (r.fits p q refl)
 
-  pub fewest_unique : (a b : List ℕ) (x y : Option ℕ) → length a ≡ length work → length b ≡ length work
+  pub fewest_unique : (a b : List ℕ) (x y : Result (Option ℕ) Misfit) → length a ≡ length work → length b ≡ length work
       → NearRuns qs vs ts cs accepting start spent ms ls ds k work a x → NearRuns qs vs ts cs accepting start spent ms ls ds k work b y → (x ≡ y) × (a ≡ b)
   fewest_unique a b x y e f r s = go (plan_right qs vs ts cs ms ls ds k work) (dec_lt start qs)
     where
@@ -124,8 +126,8 @@ module _ (qs vs : ℕ) (ts cs : List ℕ) (accepting start spent : ℕ) (ms ls d
       made (no h) (yes l) u v = absurd (made_not v u l)
       made (no h) (no l) u v = omega arith
 
-      same : {m n : ℕ} → m ≡ n → ((m ≤ k) × (x ≡ Some m)) ⊎ ((k < m) × (x ≡ None)) → ((n ≤ k) × (y ≡ Some n)) ⊎ ((k < n) × (y ≡ None)) → x ≡ y
-      same d (inl u) (inl v) = u.1 ∙ (ap (λ (z : ℕ). Some z) d ∙ sym v.1)
+      same : {m n : ℕ} → m ≡ n → ((m ≤ k) × (x ≡ Ok (Some m))) ⊎ ((k < m) × (x ≡ Ok None)) → ((n ≤ k) × (y ≡ Ok (Some n))) ⊎ ((k < n) × (y ≡ Ok None)) → x ≡ y
+      same d (inl u) (inl v) = u.1 ∙ (ap (λ (z : ℕ). Ok (Some z)) d ∙ sym v.1)
       same d (inl u) (inr v) = absurd (omega arith)
       same d (inr u) (inl v) = absurd (omega arith)
       same d (inr u) (inr v) = u.1 ∙ sym v.1

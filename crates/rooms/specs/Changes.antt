@@ -1,9 +1,10 @@
 -- The backward table by changes, as functions: the planner's. As in Tables, with a row for each number of changes. Inner: no entry point's
 -- contract cites this file.
-use Rattle.std.specs.Prelude.{Option, None, Some, cond, ◌&&◌, List, [], ◌∷◌, ◌≡◌, ℕ, suc, ◌+◌, ◌*◌, ◌-◌, ◌≤◌, ◌<◌, max, min, ltb, length, get_or, take, drop}
+use Rattle.std.specs.Prelude.{Option, None, Some, Result, Ok, Err, cond, ◌&&◌, List, [], ◌∷◌, ◌≡◌, ℕ, suc, ◌+◌, ◌*◌, ◌-◌, ◌≤◌, ◌<◌, max, min, ltb, length, get_or, take, drop}
 use Rattle.kinds.specs.Bits.{bit}
 use Rattle.meaning.specs.Meaning.{arcs_of, Place, places}
 use Rattle.meaning.specs.Bounds.{most_states, most_changes, work_size, plan_size, top}
+use Rattle.rooms.specs.declared.near.Misfit.{Misfit}
 use Rattle.rooms.specs.Tables.{Filled, Net, Same, Frame, frame, choices, leaves, best, need, rooms_by, capped, before, room, Low, Bare, Sizes}
 
 -- the best that is left where d is drawn: by any value, with the rooms of one change less, or by the drawn one, with those of as many
@@ -87,8 +88,9 @@ pub record Nears (qs vs : ℕ) (ts cs : List ℕ) (accepting start spent : ℕ) 
   pub arcs : Same (arcs_of qs vs ts cs) vs net
   pub fewest : Fewest (frame net qs vs accepting) ds ms ls start spent k work work' made
 
--- the same for whatever is lent: where a size is wrong, nothing is written, and none is found
-pub record NearRuns (qs vs : ℕ) (ts cs : List ℕ) (accepting start spent : ℕ) (ms ls ds : List ℕ) (k : ℕ) (work work' : List ℕ) (found : Option ℕ) : Type 0 where
-  pub some : PlanSizes qs vs ts cs ms ls ds k work → start < qs → (j : ℕ) → found ≡ Some j → (j ≤ k) × Nears qs vs ts cs accepting start spent ms ls ds k work work' j
-  pub none : PlanSizes qs vs ts cs ms ls ds k work → start < qs → found ≡ None → Nears qs vs ts cs accepting start spent ms ls ds k work work' (suc k)
-  pub wrong : (PlanSizes qs vs ts cs ms ls ds k work → start < qs → ⊥) → (found ≡ None) × (work' ≡ work)
+-- the same for whatever is lent: where a size is wrong, and there alone, that is told, and nothing is written
+pub record NearRuns (qs vs : ℕ) (ts cs : List ℕ) (accepting start spent : ℕ) (ms ls ds : List ℕ) (k : ℕ) (work work' : List ℕ) (found : Result (Option ℕ) Misfit) : Type 0 where
+  pub some : PlanSizes qs vs ts cs ms ls ds k work → start < qs → (j : ℕ) → found ≡ Ok (Some j) → (j ≤ k) × Nears qs vs ts cs accepting start spent ms ls ds k work work' j
+  pub none : PlanSizes qs vs ts cs ms ls ds k work → start < qs → found ≡ Ok None → Nears qs vs ts cs accepting start spent ms ls ds k work work' (suc k)
+  pub fits : PlanSizes qs vs ts cs ms ls ds k work → start < qs → found ≡ Err (record {}) → ⊥
+  pub wrong : (PlanSizes qs vs ts cs ms ls ds k work → start < qs → ⊥) → (found ≡ Err (record {})) × (work' ≡ work)

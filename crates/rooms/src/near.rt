@@ -201,8 +201,12 @@ pub(crate) fn fits(
     )
 }
 
+// Something lent has not its size, or the start is no state.
+#[derive(Clone, Copy, PartialEq, Eq)]
+pub struct Misfit;
+
 // The whole backward pass by changes: the needs of all layers for each number of changes up to the first that the start has room with,
-// or the most. Gives that number, where there is one. Where something lent has not its size, all stays.
+// or the most. Gives that number, where there is one. Where something lent has not its size, tells that, and all stays.
 pub fn fewest(
     states: usize,
     values: usize,
@@ -216,21 +220,21 @@ pub fn fewest(
     drawn: &[u8],
     most: usize,
     work: &mut [u32],
-) -> Option<usize>
+) -> Result<Option<usize>, Misfit>
     ensures { NearRuns states values targets.now costs.now accepting start.0 spent masks.now limits.now drawn.now most work.old work.new result }
 {
     if !fits(
         states, values, targets, costs, masks, limits, drawn, most, work,
     ) || states <= usize::from(start)
     {
-        return None;
+        return Err(Misfit);
     }
     let mut to = [0u8; bounds::TABLE_SIZE];
     let mut fee = [0u16; bounds::TABLE_SIZE];
     let mut arcs = [NONE; bounds::TABLE_SIZE];
     turn::turn(states, values, targets, costs, &mut to, &mut fee);
     rank::rank(states, values, targets, costs, &mut arcs);
-    fill_levels(
+    Ok(fill_levels(
         states, values, &to, &fee, &arcs, accepting, start, spent, masks, limits, drawn, most, work,
-    )
+    ))
 }
