@@ -11,15 +11,17 @@ pub(crate) fn all_below(s: &[u32], bound: u32) -> bool
     s.iter().all(|x| *x < bound)
 }
 
-// One list over another of the same length.
-#[tactic(auto, unfolding(crate::specs::Copied::copied))]
+// One list over another of the same length. By index: copy_from_slice becomes a call of memmove, and the archive for C is to need memcpy and
+// memset alone (docs/C.md).
 pub fn copy(to: &mut [u32], from: &[u32])
     ensures { to.new ≡ copied to.old from.now }
 {
     if to.len() != from.len() {
         return;
     }
-    to.copy_from_slice(from);
+    for k in 0..from.len() {
+        to[k] = from[k];
+    }
 }
 
 // Masks over as many numbers. By index, since a proof follows no writes through iter_mut under zip.

@@ -11,7 +11,7 @@ use Rattle.std.specs.Prelude.{Result, Ok, Err}
 use Rattle.rules.proofs.Checks.{never}
 use Rattle.text.specs.Bytes.{sort_of}
 use Rattle.text.specs.Numbers.{Field, number, NumberAt}
-use Rattle.text.specs.Lines.{strip_word, ending, lines, number_fault, strip_view, LineEnd}
+use Rattle.text.specs.Lines.{strip_word, ending, lines, field_fault, strip_view, LineEnd}
 use Rattle.text.specs.Writing.{Wrote}
 use Rattle.text.specs.declared.bytes.Sort.{Sort}
 use Rattle.text.specs.declared.lines.Fault.{Fault}
@@ -28,7 +28,7 @@ begins_unique line word false false p q = refl
 begins_unique line word true false p q = let e : strip_view line (length word + 1) true ≡ strip_view line (length word + 1) false = p ∙ sym q in never cc
 begins_unique line word false true p q = let e : strip_view line (length word + 1) false ≡ strip_view line (length word + 1) true = p ∙ sym q in never cc
 
-pub fault_of_unique : (n : NumberFault) (r s : Fault) → r ≡ number_fault n → s ≡ number_fault n → r ≡ s
+pub fault_of_unique : (n : Result Number NumberFault) (r s : Fault) → r ≡ field_fault n → s ≡ field_fault n → r ≡ s
 fault_of_unique n r s p q = p ∙ sym q
 
 pub close_at_unique : (line : List ℕ) (at : ℕ) (ordered : Bool) (r s : Result Unit Fault) → r ≡ ending ordered (drop at line) → s ≡ ending ordered (drop at line) → r ≡ s

@@ -2,6 +2,7 @@
 use Rattle.std.specs.Prelude.{◌≡◌, Bool, true, false, cond, ◌&&◌, Result, Ok, Err, List, [], ◌∷◌, ℕ, ◌-◌, ◌≤◌, ◌<◌, eqb, length, take, drop}
 use Rattle.text.specs.Bytes.{tab, feed, is_small}
 use Rattle.text.specs.Numbers.{Field, number, malformed, outside}
+use Rattle.text.specs.declared.numbers.Number.{Number}
 use Rattle.text.specs.declared.numbers.NumberFault.{NumberFault}
 use Rattle.text.specs.declared.numbers.NumberFault.TheVariants.{Malformed, Outside}
 use Rattle.text.specs.declared.lines.Fault.{Fault}
@@ -68,6 +69,11 @@ close ordered a r = sealed a (ending ordered r)
 abbrev pub number_fault : NumberFault → Fault
 number_fault Malformed = Form
 number_fault Outside = Range
+
+-- the fault of a field, by what was read there
+abbrev pub field_fault : Result Number NumberFault → Fault
+field_fault (Ok n) = Form
+field_fault (Err f) = number_fault f
 
 -- a word of n bytes found at the front of a line, or not
 abbrev pub strip_view : List ℕ → ℕ → Bool → Stripped

@@ -1,9 +1,9 @@
 // Lines of fields: where a line ends, and the judgement of what stands after its last field.
 ghost use Rattle.std.specs.Prelude.{◌≡◌, drop};
-ghost use Rattle.text.specs.Lines.{ending, number_fault, LineEnd};
+ghost use Rattle.text.specs.Lines.{ending, number_fault, field_fault, LineEnd};
 
 use crate::bytes::{Sort, sort_of};
-use crate::numbers::NumberFault;
+use crate::numbers::{Number, NumberFault};
 
 // Why a line is wrong: its form, a number out of range, its place in the order, or its line feed is missing.
 #[derive(Clone, Copy, PartialEq, Eq)]
@@ -14,15 +14,23 @@ pub enum Fault {
     Cut,
 }
 
+// The fault of a field, by what was read there: its range where it is a number out of range, else its form.
+pub fn fault_of(n: Result<Number, NumberFault>) -> Fault
+    ensures { result ≡ field_fault n }
+{
+    match n {
+        Ok(_) => Fault::Form,
+        Err(NumberFault::Malformed) => Fault::Form,
+        Err(NumberFault::Outside) => Fault::Range,
+    }
+}
+
 // The fault of a field that is no number in range.
 impl From<NumberFault> for Fault {
     ghost from_gives = { λ n f. f ≡ number_fault n };
 
     fn from(n: NumberFault) -> Fault {
-        match n {
-            NumberFault::Malformed => Fault::Form,
-            NumberFault::Outside => Fault::Range,
-        }
+        fault_of(Err(n))
     }
 }
 
