@@ -1,17 +1,16 @@
 // The program that makes a sheet of a pattern: standard input to standard output.
 #![tactic(auto)]
 
+use streams::Work;
+
 // One byte past the ceiling is enough to know that an input is too long; the output has room for all that is printed.
 fn main(rt: HostRuntime) {
     let mut space = [0u8; drafter::LONGEST_INPUT + 1];
     let mut output = [0u8; scribe::LONGEST_SHEET];
     let mut input = rt.stdin();
     let mut out = rt.stdout();
-    streams::run(
-        &mut input,
-        &mut space,
-        drafter::pattern_job,
-        &mut output,
-        &mut out,
-    );
+    let work = Work {
+        job: drafter::pattern_job,
+    };
+    streams::run(&mut input, &mut space, &work, &mut output, &mut out);
 }

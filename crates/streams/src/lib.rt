@@ -40,20 +40,26 @@ pub fn write_decimal<W: Write>(output: &mut W, number: u64) -> bool
     write!(output, "{number}").is_ok()
 }
 
-// A program from bytes to bytes: fills `space` from the input, lets `job` put what comes of these bytes into `output`, and writes as much of
+// A program's work, for outputs of N bytes: puts what comes of an input into the output, and gives how many bytes of it are to be written.
+#[derive(Clone, Copy)]
+pub struct Work<const N: usize> {
+    pub job: fn(&[u8], &mut [u8]) -> usize,
+    ghost callable: { IsAlwaysCallable job },
+    ghost fits: { (x : _) (y : _) (r : _) (z : _) → length y.now ≡ N → post job x y r z → r ≤ N },
+}
+
+// A program from bytes to bytes: fills `space` from the input, lets the job put what comes of these bytes into `output`, and writes as much of
 // that as the job says; gives whether all was written.
-pub fn run<R: Read, W: Write, F: Fn(&[u8], &mut [u8]) -> usize>(
+pub fn run<R: Read, W: Write, const N: usize>(
     input: &mut R,
     space: &mut [u8],
-    job: F,
-    output: &mut [u8],
+    work: &Work<N>,
+    output: &mut [u8; N],
     out: &mut W,
 ) -> bool
-    requires callable { F.IsAlwaysCallable job }
-    requires fits { (x : _) (y : _) (r : _) (z : _) → y.now ≡ output.old → F.post job x y r z → r ≤ length output.old }
-    ensures { (x : _) × (y : _) × (r : _) × (z : _) × Consumes (R.remaining input.old) (R.remaining input.new) x.now × (y.now ≡ output.old) × F.post job x y r z × (z.now ≡ output.new) × (result ≡ true → Appends (W.contents out.old) (W.contents out.new) (take r output.new)) }
+    ensures { (x : _) × (y : _) × (r : _) × (z : _) × Consumes (R.remaining input.old) (R.remaining input.new) x.now × (y.now ≡ output.old) × post work.now.job x y r z × (z.now ≡ output.new) × (result ≡ true → Appends (W.contents out.old) (W.contents out.new) (take r output.new)) }
 {
     let got = read_full(input, space);
-    let length = job(&space[..got], output);
+    let length = (work.job)(&space[..got], output);
     write_all(out, &output[..length])
 }

@@ -2,5 +2,5 @@ use native.Mathlib.Omega.{arith}
 use Rattle.job.proofs.MendShort.{mend_job_fits}
 use Rattle.mend.proofs.main.Goals as goal
 
-pub run-requires-clause-fits : goal.run-requires-clause-fits
-run-requires-clause-fits c x y r z e p = omega (arith, mend_job_fits _ _ _ _ p)
+pub invariant_of-work-clause-fits : goal.invariant_of-work-clause-fits
+invariant_of-work-clause-fits c x y r z l p = omega (arith, mend_job_fits _ _ _ _ p)
