@@ -14,6 +14,7 @@ pub fn less(a: u32, b: u32) -> u32
 }
 
 // One number in the first places of a row; a row that has fewer stays.
+#[tactic(auto, unfolding(crate::specs::Tables::blanked))]
 pub fn blank(count: usize, number: u32, row: &mut [u32])
     ensures { row.new ≡ blanked count number row.old }
 {
@@ -24,6 +25,7 @@ pub fn blank(count: usize, number: u32, row: &mut [u32])
 }
 
 // The first places of a row, as another has them; where one of the two has fewer, the row stays.
+#[tactic(auto, unfolding(crate::specs::Tables::copied))]
 pub fn copy(count: usize, from: &[u32], row: &mut [u32])
     ensures { row.new ≡ copied count from.now row.old }
 {
