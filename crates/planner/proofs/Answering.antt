@@ -1,6 +1,6 @@
 -- The returns of the planner, against the one equation. Assumes nothing.
 use mathlib.Core.Path.{◌≡◌, refl, sym, ap, ◌∙◌}
-use mathlib.Core.List.{List}
+use mathlib.Core.List.{List, []}
 use Prim.Native.Nat.{ℕ, ◌≤◌, ◌<◌}
 use native.Mathlib.Omega.{arith}
 use lib.Dec.{leb}
@@ -17,6 +17,7 @@ use Rattle.rules.proofs.Refusals.{number_some, refused_by}
 use Rattle.rooms.specs.Changes.{PlanSizes}
 use Rattle.mending.specs.Outcomes.{planned, rosters_long, mend_checks, mend_done, mend_from, mend_of}
 use Rattle.mending.proofs.Lengths.{long_of}
+use Rattle.mending.specs.Mending.{mended}
 use Rattle.planner.specs.Inner.{Mends}
 
 -- the work table after a refusal: wiped above answer 2
@@ -78,3 +79,8 @@ module _ (h : Handed) (ms ls ds : List ℕ) (k : ℕ) (roster work : List ℕ) w
       pub mend_none : Mends (rosters h.rules h.start 0 (places ms ls)) ds k roster out work is None → planned 11 0 out is ≡ mend_of h ms ls ds k roster work
       unfolding mend_of mend_from mend_done
       mend_none m = rw (m.clear, all_passed (λ n. planned n 0 roster (work_after n work)) _ checks passed, m.roster.0, m.roster.1)
+
+-- that there is none, by the list of rosters alone, as `auto` takes it: an exit that answers 11 needs no answer of its own
+pub none_told : (h : Handed) (ms ls ds : List ℕ) (k : ℕ) (roster work : List ℕ) → 0 ≡ decided (mend_checks h ms ls ds k (length roster) (length work)) (λ n. n) 0
+    → mended ds k (rosters h.rules h.start 0 (places ms ls)) ≡ [] → mend_of h ms ls ds k roster work ≡ planned 11 0 roster (zeros work)
+none_told h ms ls ds k roster work e m = sym (mend_none h ms ls ds k roster work e (record { roster = (m, refl); clear = refl }))

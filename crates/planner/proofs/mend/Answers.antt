@@ -1,6 +1,6 @@
 use borrow.Author.Rules.{rules}
 use native.Mathlib.Omega.{arith}
-use Rattle.planner.proofs.Answering.{work_wiped, work_kept, mend_refused, ready, mend_found, mend_none}
+use Rattle.planner.proofs.Answering.{work_wiped, work_kept, mend_refused, ready, mend_found}
 use Rattle.planner.proofs.mend.Goals as goal
 
 pub returns-then-number-gt2 : goal.returns-then-number-gt2
@@ -12,9 +12,6 @@ returns-else-number-gt2 c = mend_refused _ _ _ _ _ _ _ _ c.in-Err.ensures (work_
 pub mend_from-found-requires : goal.mend_from-found-requires
 mend_from-found-requires c = let r = ready _ _ _ _ _ _ _ c.in_default.ensures in
     (r.0, r.1, search rules, r.2)
-
-pub returns-in_default-found : goal.returns-in_default-found
-returns-in_default-found c = mend_none _ _ _ _ _ _ _ c.in_default.ensures c.in_default-found.ensures
 
 pub returns : goal.returns
 returns c = mend_found _ _ _ _ _ _ _ c.in_default.ensures c.in-Some.ensures
