@@ -30,4 +30,4 @@ pub returns-in-Keep : goal.returns-in-Keep
 returns-in-Keep c = keep_taken _ _ _ _ _ _ c.in-Keep.is c.meet-met.ensures (omega (arith, c.slice_known-1.given c.in-Keep.place)) (omega arith)
 
 pub returns-in-Limit : goal.returns-in-Limit
-returns-in-Limit c = limit_taken _ _ _ _ _ _ c.in-Limit.is c.min.ensures
+returns-in-Limit c = limit_taken _ _ _ _ _ _ c.in-Limit.is (omega arith)
