@@ -154,7 +154,6 @@ pub fn rules_right(rules: &RuleSet<'_>) -> bool
 }
 
 // Whether no choice mask has a bit at or above V: else answer 4.
-#[tactic(auto, unfolding(crate::specs::Checks::masks_right))]
 pub fn masks_right(values: usize, masks: &[u16]) -> bool
     ensures { result ≡ masks_right values masks.now }
 {

@@ -9,8 +9,8 @@ use Rattle.std.proofs.lemmas.List.{take_all}
 use Rattle.rules.specs.Checks.{masks_right}
 use Rattle.rules.proofs.masks_right.Goals as goal
 
--- The check finds the code's own proof without this. Written out, it holds of all the masks however they are taken, and fails only where
--- one is left out.
+-- For the code as it stands the check would find this by unfolding alone. Written out it holds of any slice that has all the masks, so that
+-- a wrong program which leaves one out is refused for that one.
 pub returns : goal.returns
 unfolding masks_right
 returns c = all_from_yields_List (λ m. ltb m (2 ^ c.args.values)) _ _ _ c.all.ensures.ran (YieldsList-from_slice c.args.masks.now (grind (arith, take_all))) (λ x b q k. search (rules, tests))

@@ -9,7 +9,7 @@ returns-in-Ok-Keep c = let k = numbered _ _ _ c.in-Ok-Keep.field-0-is c.in-Ok-Ke
 
 pub returns-in-Ok-Limit : goal.returns-in-Ok-Limit
 returns-in-Ok-Limit c = let k = numbered _ _ _ c.in-Ok-Limit.field-0-is c.in-Ok-Limit.ensures in
-    apply_limit _ _ _ _ _ (λ e. omega arith) k _ c.min.ensures
+    apply_limit _ _ _ _ _ (λ e. omega arith) k _ (omega arith)
 
 pub returns-in-Ok-Mark : goal.returns-in-Ok-Mark
 returns-in-Ok-Mark c = let k = numbered _ _ _ c.in-Ok-Mark.field-0-is c.in-Ok-Mark.ensures in
