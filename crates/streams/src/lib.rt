@@ -1,7 +1,7 @@
 // Bytes read from a reader and written to a writer, into and from memory that the caller lends.
 #![tactic(auto)]
 
-ghost use Rattle.std.specs.Prelude.{◌≡◌, ◌≤◌, length, take, true};
+ghost use Rattle.std.specs.Prelude.{◌≡◌, ◌≤◌, List, ℕ, length, take, true};
 ghost use Rattle.std.specs.Fmt.{decimal};
 ghost use Rattle.std.specs.Io.KnownBytes.{Consumes, Appends};
 
@@ -62,4 +62,81 @@ pub fn run<R: Read, W: Write, const N: usize>(
     let got = read_full(input, space);
     let length = (work.job)(&space[..got], output);
     write_all(out, &output[..length])
+}
+
+// A job that holds what it needs beside the input, as a closure would; it says itself what it may put and give.
+pub trait Job {
+    // for an input and what the output held, what it may give, and leave in the output
+    ghost puts: { Self → List ℕ → List ℕ → ℕ → List ℕ → Type 0 };
+
+    fn put(&self, input: &[u8], output: &mut [u8]) -> usize
+        ensures { puts self.now input.now output.old result output.new };
+}
+
+// As `run`, for such a job and an output of any length; where the job gives more than that, all of the output is written.
+pub fn run_job<R: Read, W: Write, J: Job>(
+    input: &mut R,
+    space: &mut [u8],
+    job: &J,
+    output: &mut [u8],
+    out: &mut W,
+) -> bool
+    ensures { (x : List ℕ) × (r : ℕ) × Consumes (R.remaining input.old) (R.remaining input.new) x × J.puts job.now x output.old r output.new × (result ≡ true → Appends (W.contents out.old) (W.contents out.new) (take r output.new)) }
+{
+    let got = read_full(input, space);
+    let given = job.put(&space[..got], output);
+    write_all(out, &output[..given.min(output.len())])
+}
+
+#[cfg(test)]
+mod tests {
+    use super::*;
+    use std::io::Cursor;
+
+    // One letter all over the output; gives as many as the input has bytes.
+    #[derive(Drop)]
+    struct Row {
+        letter: u8,
+    }
+
+    impl Job for Row {
+        ghost puts = { λ _ input _ given _. given ≡ length input };
+
+        fn put(&self, input: &[u8], output: &mut [u8]) -> usize {
+            output.fill(self.letter);
+            input.len()
+        }
+    }
+
+    // The space holds four bytes; what is not written stays a dot.
+    #[test]
+    fn runs_a_job_that_holds_a_letter(rt: HostRuntime) {
+        for (text, length, letter, want) in [
+            ("abc", 5usize, b'x', "xxx....."),
+            ("abc", 3, b'y', "yyy....."),
+            ("abcd", 2, b'y', "yy......"),
+            ("abcdef", 5, b'z', "zzzz...."),
+            ("", 5, b'x', "........"),
+        ] {
+            let mut input = text.as_bytes();
+            let mut space = [0u8; 4];
+            let mut output = [0u8; 5];
+            let mut out = Cursor::new([b'.'; 8]);
+            let job = Row { letter };
+            assert!(rt;
+                run_job(
+                    &mut input,
+                    &mut space,
+                    &job,
+                    &mut output[..length],
+                    &mut out
+                )
+            );
+            assert_eq!(rt;
+                out.into_inner().as_slice(),
+                want.as_bytes(),
+                "{text} to {length} bytes"
+            );
+        }
+    }
 }
