@@ -7,6 +7,9 @@ ghost use Rattle.std.specs.Io.KnownBytes.{Consumes, Appends};
 
 use std::io::{Read, Write};
 
+#[cfg(test)]
+mod closures;
+
 // Fills a buffer from its start until it is full, the input ends or a read fails, and gives how many bytes it holds then: the first ones
 // of those that the input had left.
 pub fn read_full<R: Read>(input: &mut R, buffer: &mut [u8]) -> usize
