@@ -32,7 +32,7 @@ impl<F: Fn(&[u8], &mut [u8]) -> usize> Call for Closure<F> {
     }
 }
 
-// One of which that is known.
+// What may be called, and is known to.
 #[derive(Drop)]
 struct Ready<C: Call> {
     call: C,
@@ -47,7 +47,7 @@ impl<C: Call> Model for Ready<C> {
 }
 
 impl<C: Call> Job for Ready<C> {
-    ghost puts = { λ call input was given now. C.gives call input was given now };
+    ghost puts = { C.gives };
 
     fn put(&self, input: &[u8], output: &mut [u8]) -> usize {
         self.call.call(input, output)
